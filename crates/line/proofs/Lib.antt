@@ -1,0 +1,11 @@
+pub mod ByMode
+pub mod Tests
+pub mod TableLaws
+pub mod Signed
+pub mod Bound
+pub mod PointLaws
+pub mod Differences
+pub mod StateLaws
+pub mod CodeLaws
+pub mod RegionLaws
+pub mod SizeLaws

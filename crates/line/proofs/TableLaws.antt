@@ -1,0 +1,118 @@
+-- A test over a list, computed once, and the law that carries it to each member. Assumes nothing.
+use mathlib.Core.Path.{_≡_, refl, sym, ap, _∙_, subst}
+use mathlib.Core.Bool.{Bool, true, false, _&&_, _||_, not, cond}
+use mathlib.Core.List.{List, [], _∷_}
+use Prim.Native.Nat.{ℕ, zero, suc, _+_, _-_, _%_, _<_, _≤_}
+use native.Mathlib.Nat.{not-suc-le-zero, mod-lt}
+use native.Mathlib.Omega.{arith}
+use borrow.Author.Tests.{eqb-false}
+use lib.Dec.{T, eqb, ltb, eqb→eq, ltb→lt, lt→ltb}
+use lib.ListN.{length, getD}
+use Rattle.line.specs.Table.{entry, rowFrom, member, below, every}
+
+pub and-left : (a b : Bool) → T (a && b) → T a
+and-left true b t = tt
+and-left false b t = absurd t
+
+pub and-right : (a b : Bool) → T (a && b) → T b
+and-right true b t = t
+and-right false b t = absurd t
+
+pub and-intro : (a b : Bool) → T a → T b → T (a && b)
+and-intro true b s t = t
+and-intro false b s t = absurd s
+
+pub is-true : (b : Bool) → T b → b ≡ true
+is-true true t = refl
+is-true false t = absurd t
+
+pub no-so : (c : Bool) → (T c → ⊥) → c ≡ false
+no-so true f = absurd (f tt)
+no-so false f = refl
+
+-- two tests with one outcome
+abbrev pub alike : Bool → Bool → Bool
+alike true b = b
+alike false b = not b
+
+pub alike-eq : (a b : Bool) → T (alike a b) → a ≡ b
+alike-eq true true t = refl
+alike-eq true false t = absurd t
+alike-eq false true t = absurd t
+alike-eq false false t = refl
+
+every-or : (f : ℕ → Bool) (x y : ℕ) (t : Bool) (b : Bool) → eqb x y ≡ b → T (f y) → (T t → T (f x)) → T (b || t) → T (f x)
+every-or f x y t true e p k u = subst (λ (z : ℕ). T (f z)) (sym (eqb→eq x y (subst T (sym e) tt))) p
+every-or f x y t false e p k u = k u
+
+pub every-at : (f : ℕ → Bool) (xs : List ℕ) (x : ℕ) → T (every f xs) → T (member x xs) → T (f x)
+every-at f [] x t h = absurd h
+every-at f (y ∷ ys) x t h =
+    every-or f x y (member x ys) (eqb x y) refl (and-left (f y) (every f ys) t)
+    (every-at f ys x (and-right (f y) (every f ys) t)) h
+
+member-or : (x y : ℕ) (t : Bool) (b : Bool) → eqb x y ≡ b → ((x ≡ y → ⊥) → T t) → T (b || t)
+member-or x y t true e k = tt
+member-or x y t false e k = k (eqb-false x y e)
+
+pub member-below : (n x : ℕ) → x < n → T (member x (below n))
+member-below zero x h = absurd (not-suc-le-zero h)
+member-below (suc n) x h = member-or x n (member x (below n)) (eqb x n) refl (λ ne. member-below n x (omega arith))
+
+-- a test of the numbers below n, at each of them
+pub below-at : (f : ℕ → Bool) (n : ℕ) → T (every f (below n)) → (x : ℕ) → x < n → T (f x)
+below-at f n t x h = every-at f (below n) x t (member-below n x h)
+
+-- all of some tests, and the test at a place
+abbrev pub all : List Bool → Bool
+all [] = true
+all (b ∷ bs) = b && all bs
+
+pub test-at : (bs : List Bool) (i : ℕ) → T (all bs) → T (getD bs i true)
+test-at [] i t = tt
+test-at (b ∷ bs) zero t = and-left b (all bs) t
+test-at (b ∷ bs) (suc i) t = test-at bs i (and-right b (all bs) t)
+
+-- each entry of a table passes the test that its rows pass
+pub entry-at : (f : ℕ → Bool) (t : List ℕ) → 0 < length t → T (every (λ i. f (getD t i 0)) (below (length t))) → (i : ℕ) → T (f (entry t i))
+unfolding entry
+entry-at f t p h i = below-at (λ j. f (getD t j 0)) (length t) h (i % length t) (mod-lt i p)
+
+pub entry-small : (k : ℕ) (t : List ℕ) → 0 < length t → T (every (λ i. ltb (getD t i 0) k) (below (length t))) → (i : ℕ) → entry t i < k
+entry-small k t p h i = ltb→lt (entry t i) k (entry-at (λ x. ltb x k) t p h i)
+
+-- a row found is one of the rows
+row-step : (b : Bool) (k n r : ℕ) → r ≤ suc k + n → cond b k r ≤ k + suc n
+row-step true k n r h = omega arith
+row-step false k n r h = omega arith
+
+pub row-below : (f : ℕ → Bool) (k n : ℕ) → rowFrom f k n ≤ k + n
+unfolding rowFrom
+row-below f k zero = omega arith
+row-below f k (suc n) = row-step (f k) k n (rowFrom f (suc k) n) (row-below f (suc k) n)
+
+-- tests that agree find the same row
+pub row-same : (f g : ℕ → Bool) (k n : ℕ) → ((i : ℕ) → i < k + n → f i ≡ g i) → rowFrom f k n ≡ rowFrom g k n
+unfolding rowFrom
+row-same f g k zero h = refl
+row-same f g k (suc n) h =
+    rw (h k (omega arith), row-same f g (suc k) n (λ i p. h i (omega arith)))
+
+-- a search for a row, one row further: what is left of it gives the row
+module _ (f : ℕ → Bool) (k n r : ℕ) (h : rowFrom f k (n - k) ≡ r) where
+  left-one : k < n → rowFrom f k (suc (n - suc k)) ≡ r
+  left-one p = subst (λ (i : ℕ). rowFrom f k i ≡ r) (let e : n - k ≡ suc (n - suc k) = omega arith in e) h
+
+  pub row-hit : k < n → f k ≡ true → k ≡ r
+  unfolding rowFrom
+  row-hit p e = ap (λ (b : Bool). cond b k (rowFrom f (suc k) (n - suc k))) (sym e) ∙ left-one p
+
+  pub row-miss : k < n → f k ≡ false → rowFrom f (k + 1) (n - (k + 1)) ≡ r
+  unfolding rowFrom
+  row-miss p e =
+      ap (λ (i : ℕ). rowFrom f i (n - i)) (let q : k + 1 ≡ suc k = omega arith in q)
+      ∙ ap (λ (b : Bool). cond b k (rowFrom f (suc k) (n - suc k))) (sym e) ∙ left-one p
+
+  pub row-end : n ≤ k → k ≡ r
+  unfolding rowFrom
+  row-end p = subst (λ (i : ℕ). rowFrom f k i ≡ r) (let e : n - k ≡ 0 = omega arith in e) h

@@ -1,0 +1,6 @@
+pub mod Table
+pub mod Mode
+pub mod Point
+pub mod Decide
+pub mod Code
+pub mod Sizes

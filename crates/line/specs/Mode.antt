@@ -1,0 +1,72 @@
+-- Document 01, "Modes, states, turns": the table of modes, the roles, the states of a mode and their turns.
+use Prim.Native.Nat.{ℕ, zero, suc, _+_, _*_, _-_, _/_, _%_}
+use mathlib.Core.Bool.{Bool, true, false, _&&_}
+use mathlib.Core.List.{List, [], _∷_}
+use lib.Dec.{leb, ltb, eqb}
+use lib.ListN.{getD}
+use Rattle.line.specs.Table.{member, below}
+
+-- one value for each mode; a number that is no mode reads the nearest column
+abbrev pub byMode : {A : Type 0} → ℕ → A → A → A → A → A
+byMode m a b c d = getD (a ∷ b ∷ c ∷ d ∷ []) (m - 1) d
+
+-- mode 1 is V.27 ter at 2400 bit/s, 2 the same at 4800, 3 is V.32 at 4800, 4 uncoded V.32 at 9600
+unfoldable pub isMode : ℕ → Bool
+isMode m = leb 1 m && leb m 4
+
+abbrev pub modes : List ℕ
+modes = 1 ∷ 2 ∷ 3 ∷ 4 ∷ []
+
+-- w: the line bits in a point
+unfoldable pub width : ℕ → ℕ
+width m = byMode m 2 3 2 4
+
+-- R: the scrambler's length
+unfoldable pub regLen : ℕ → ℕ
+regLen m = byMode m 7 7 23 23
+
+-- step: the smallest turn that carries the states onto themselves, in degrees
+unfoldable pub step : ℕ → ℕ
+step m = byMode m 90 45 90 90
+
+-- role 0 is the calling sender, 1 the answering one; modes 1 and 2 have role 0 only
+unfoldable pub isRole : ℕ → ℕ → Bool
+isRole m role = ltb role (byMode m 1 1 2 2)
+
+-- V.27 ter states are 0 to 7, at 45° times the number, even ones only in mode 1.
+-- V.32 states are the bits Y1 Y2 Q3 Q4 read as a number; mode 3 uses A = 0001, B = 0101, C = 1101, D = 1001.
+unfoldable pub states : ℕ → List ℕ
+states m = byMode m (0 ∷ 2 ∷ 4 ∷ 6 ∷ []) (below 8) (1 ∷ 5 ∷ 13 ∷ 9 ∷ []) (below 16)
+
+unfoldable pub isState : ℕ → ℕ → Bool
+isState m s = member s (states m)
+
+-- the quadrant of a V.32 state: its Y1 Y2
+unfoldable pub quadrant : ℕ → ℕ
+quadrant s = s / 4 % 4
+
+-- +90° of Y1 Y2 runs 00, 01, 11, 10, 00
+unfoldable pub nextQuadrant : List ℕ
+nextQuadrant = 1 ∷ 3 ∷ 0 ∷ 2 ∷ []
+
+-- one step of the mode: 45° adds 1 to a V.27 ter state, 7 going to 0; 90° turns the quadrant of a V.32 state.
+-- That this is the state sent at the turned point is the law `sent-turned` of proofs/StateLaws.
+unfoldable pub turn : ℕ → ℕ → ℕ
+turn m s =
+    byMode m ((s + 2) % 8) ((s + 1) % 8) (4 * getD nextQuadrant (quadrant s) 0 + s % 4) (4 * getD nextQuadrant (quadrant s) 0 + s % 4)
+
+-- k steps of the mode
+abbrev pub turns : ℕ → ℕ → ℕ → ℕ
+turns m zero s = s
+turns m (suc k) s = turn m (turns m k s)
+
+-- steps in a turn of 90°, and in a whole turn
+unfoldable pub quarterSteps : ℕ → ℕ
+quarterSteps m = 90 / step m
+
+unfoldable pub wholeSteps : ℕ → ℕ
+wholeSteps m = 360 / step m
+
+-- what of a state the bits after it depend on: all of it, in mode 4 its quadrant
+unfoldable pub face : ℕ → ℕ → ℕ
+face m s = byMode m s s s (quadrant s)

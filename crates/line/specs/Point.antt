@@ -1,0 +1,53 @@
+-- Document 01, "Modes, states, turns": points, their turns, and the point sent for a state.
+use Prim.Native.Nat.{ℕ, zero, suc, _%_}
+use mathlib.Core.Bool.{Bool, true, false, _&&_}
+use mathlib.Core.List.{List, [], _∷_, map}
+use lib.Dec.{eqb, leb}
+use lib.ListN.{getD}
+use lib.IntN.{ℤ, pos, negsuc, negℤ, natAbs, _*ℤ_}
+use Rattle.line.specs.declared.Point.{Point}
+use Rattle.line.specs.Mode.{byMode}
+
+-- re and im, 1024 to one level
+abbrev pub at : ℤ → ℤ → Point
+at x y = record { re = x; im = y }
+
+-- each coordinate lies from -16384 to 16384
+unfoldable pub inRange : Point → Bool
+inRange p = leb (natAbs (p .re)) 16384 && leb (natAbs (p .im)) 16384
+
+unfoldable pub isOrigin : Point → Bool
+isOrigin p = eqb (natAbs (p .re)) 0 && eqb (natAbs (p .im)) 0
+
+-- a turn of 90° takes (re, im) to (-im, re)
+abbrev pub turned : Point → Point
+turned p = at (negℤ (p .im)) (p .re)
+
+-- k turns of 90°
+abbrev pub turnedBy : ℕ → Point → Point
+turnedBy zero p = p
+turnedBy (suc k) p = turned (turnedBy k p)
+
+-- the points of the V.27 ter states 0 to 7: (4096, 0), (2896, 2896), and so round
+unfoldable pub sent27 : List Point
+sent27 =
+    at (pos 4096) (pos 0) ∷ at (pos 2896) (pos 2896) ∷ at (pos 0) (pos 4096) ∷ at (negsuc 2895) (pos 2896)
+    ∷ at (negsuc 4095) (pos 0) ∷ at (negsuc 2895) (negsuc 2895) ∷ at (pos 0) (negsuc 4095) ∷ at (pos 2896) (negsuc 2895) ∷ []
+
+-- 001, table 3: the points of the V.32 states 0000, 0001, .. 1111, in levels
+unfoldable pub levels32 : List Point
+levels32 =
+    let 1+ : ℤ = pos 1 in let 3+ : ℤ = pos 3 in let 1- : ℤ = negsuc 0 in let 3- : ℤ = negsuc 2 in
+    at 1- 1- ∷ at 3- 1- ∷ at 1- 3- ∷ at 3- 3- ∷ at 1+ 1- ∷ at 1+ 3- ∷ at 3+ 1- ∷ at 3+ 3-
+    ∷ at 1- 1+ ∷ at 1- 3+ ∷ at 3- 1+ ∷ at 3- 3+ ∷ at 1+ 1+ ∷ at 3+ 1+ ∷ at 1+ 3+ ∷ at 3+ 3+ ∷ []
+
+-- the same, 1024 to one level
+unfoldable pub sent32 : List Point
+sent32 = map (λ (p : Point). at (pos 1024 *ℤ p .re) (pos 1024 *ℤ p .im)) levels32
+
+-- the point sent for a state; a number past the constellation comes round, which no state does
+unfoldable pub sentPoint : ℕ → ℕ → Point
+sentPoint m s =
+    let v27 : Point = getD sent27 (s % 8) (at (pos 0) (pos 0)) in
+    let v32 : Point = getD sent32 (s % 16) (at (pos 0) (pos 0)) in
+    byMode m v27 v27 v32 v32

@@ -1,0 +1,19 @@
+//! The line recorder's symbol codec in plain Rust, written from document 01
+//! (`01-scope.md`) and Recommendations V.27 ter (000) and V.32 (001).
+//!
+//! It is the outside implementation that the proved one is compared with.
+//! Every public call is total; a refused call gives its number alone and leaves
+//! states and buffers as they were.
+
+pub mod code;
+pub mod listing;
+pub mod mode;
+pub mod point;
+pub mod receiver;
+pub mod refusal;
+pub mod rng;
+pub mod scrambler;
+pub mod sender;
+pub mod store;
+pub mod training;
+pub mod units;

@@ -1,0 +1,52 @@
+//! Refusal numbers (document 01, "Refusals, by whose doing").
+
+/// The number of a refused call.
+#[derive(Clone, Copy, PartialEq, Eq, PartialOrd, Ord, Hash, Debug)]
+pub struct Refusal(pub u8);
+
+impl Refusal {
+    /// Mode not 1 to 4.
+    pub const MODE: Refusal = Refusal(1);
+    /// Role not one of the mode's.
+    pub const ROLE: Refusal = Refusal(2);
+    /// Training length that the mode does not have.
+    pub const TRAINING_LENGTH: Refusal = Refusal(3);
+    /// A handed-in state with another field outside its range.
+    pub const STATE_FIELD: Refusal = Refusal(4);
+    /// A data byte above 1.
+    pub const DATA_BYTE: Refusal = Refusal(5);
+    /// Data bits not a multiple of w.
+    pub const BIT_COUNT: Refusal = Refusal(6);
+    /// Lent numbers too few from the offset, or an offset past their end.
+    pub const LENT_NUMBERS: Refusal = Refusal(7);
+    /// Coordinate out of range.
+    pub const COORDINATE: Refusal = Refusal(8);
+    /// A gap, or a lost count to append, of 0.
+    pub const EMPTY_GAP: Refusal = Refusal(9);
+    /// A mode 2 point off the origin in none of the eight sectors.
+    pub const NO_SECTOR: Refusal = Refusal(10);
+    /// Store size not 32 times an N from 2 to 2048.
+    pub const STORE_SIZE: Refusal = Refusal(11);
+    /// Record 0's four bytes, mode, role or a byte due to be zero.
+    pub const RECORD_0: Refusal = Refusal(12);
+    /// An index of N or more, or met twice.
+    pub const INDEX: Refusal = Refusal(13);
+    /// A chain record that breaks its layout or holds a point out of range.
+    pub const RECORD: Refusal = Refusal(14);
+    /// Total not the chain's sum.
+    pub const TOTAL: Refusal = Refusal(15);
+    /// Place or total above 4294967295.
+    pub const TOO_LONG: Refusal = Refusal(16);
+    /// A new record is needed and the greatest index is N − 1.
+    pub const STORE_FULL: Refusal = Refusal(17);
+}
+
+/// Refuses unless the condition is met. A call lists its needs in the order of
+/// their numbers, so that the lowest number that applies is given.
+pub fn need(met: bool, refusal: Refusal) -> Result<(), Refusal> {
+    if met {
+        Ok(())
+    } else {
+        Err(refusal)
+    }
+}

@@ -1,0 +1,18 @@
+//! Two kinds of count that are never taken for each other (document 01,
+//! "Receiver": a place in unit intervals is never taken for a count of bits).
+
+/// A number of unit intervals: a place on the track, or the length of a gap.
+#[derive(Clone, Copy, PartialEq, Eq, PartialOrd, Ord, Hash, Debug)]
+pub struct UnitIntervals(pub u32);
+
+impl UnitIntervals {
+    /// The sum, unless it is above 4294967295.
+    pub fn plus(self, other: UnitIntervals) -> Option<UnitIntervals> {
+        self.0.checked_add(other.0).map(UnitIntervals)
+    }
+}
+
+/// A number of line bits. It is wider than any register, so that a handed-in
+/// state can hold a count out of range.
+#[derive(Clone, Copy, PartialEq, Eq, PartialOrd, Ord, Hash, Debug)]
+pub struct BitCount(pub u32);

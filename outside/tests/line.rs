@@ -1,0 +1,177 @@
+//! Turns, decided points and the differential code.
+
+use outside::code;
+use outside::mode::{Line, MODES};
+use outside::point::{decide, sent, turn_state, Decision, Point};
+use outside::rng::Rng;
+
+#[test]
+fn a_sent_point_is_decided_as_its_state() {
+    for mode in &MODES {
+        for &state in mode.states {
+            let Point { re, im } = sent(mode, state);
+            assert_eq!(decide(mode, re, im), Decision::State(state));
+        }
+    }
+}
+
+#[test]
+fn turned_states_are_states_and_make_full_turns() {
+    for mode in &MODES {
+        for &state in mode.states {
+            let mut turned = state;
+            for _ in 0..360 / mode.step {
+                turned = turn_state(mode, turned);
+                assert!(mode.has_state(turned));
+            }
+            assert_eq!(turned, state);
+            assert_ne!(turn_state(mode, state), state);
+        }
+    }
+}
+
+#[test]
+fn a_turn_by_90_degrees_turns_the_decided_state() {
+    let edges = [-2048, -2047, -3, -2, -1, 0, 1, 2, 3, 414, 1000, 2047, 2048];
+    for mode in &MODES {
+        let quarter = |state| match mode.line {
+            Line::V27ter => (state + 2) % 8,
+            Line::V32 => turn_state(mode, state),
+        };
+        for re in edges {
+            for im in edges {
+                let expected = match decide(mode, re, im) {
+                    Decision::State(state) => Decision::State(quarter(state)),
+                    other => other,
+                };
+                assert_eq!(decide(mode, -im, re), expected);
+            }
+        }
+    }
+}
+
+#[test]
+fn only_the_origin_is_no_state() {
+    let mut rng = Rng::new(1);
+    for mode in &MODES {
+        assert_eq!(decide(mode, 0, 0), Decision::Origin);
+        for _ in 0..100_000 {
+            let number = rng.next_u64();
+            let (re, im) = (number as i16, (number >> 16) as i16);
+            if let Decision::State(state) = decide(mode, re, im) {
+                assert!(mode.has_state(state));
+            } else {
+                assert_eq!((re, im), (0, 0));
+            }
+        }
+    }
+}
+
+/// Away from the edges, floating point angles decide alike.
+#[test]
+fn phase_decisions_agree_with_angles() {
+    let mut rng = Rng::new(2);
+    for mode in &MODES[..3] {
+        for _ in 0..100_000 {
+            let (re, im) = (rng.next_u64() as i16, rng.next_u64() as i16);
+            let angle = f64::from(im).atan2(f64::from(re)).to_degrees();
+            let within = f64::from(mode.step) / 2.0 - 0.001;
+            let near = mode.states.iter().copied().find(|&state| {
+                let Point { re, im } = sent(mode, state);
+                let direction = f64::from(im).atan2(f64::from(re)).to_degrees();
+                let apart = (angle - direction).rem_euclid(360.0);
+                apart.min(360.0 - apart) < within
+            });
+            if let Some(state) = near {
+                assert_eq!(decide(mode, re, im), Decision::State(state));
+            }
+        }
+    }
+}
+
+#[test]
+fn level_decisions_are_the_nearest_point() {
+    let mut rng = Rng::new(3);
+    let mode = &MODES[3];
+    for _ in 0..100_000 {
+        let (re, im) = (rng.between(-5000, 5000), rng.between(-5000, 5000));
+        // Off the edges between levels there is one nearest point.
+        if [re, im].iter().any(|v| v % 2048 == 0) {
+            continue;
+        }
+        let distance = |state: u8| {
+            let Point { re: x, im: y } = sent(mode, state);
+            (re - i64::from(x)).pow(2) + (im - i64::from(y)).pow(2)
+        };
+        let nearest = (0..16).min_by_key(|&state| distance(state)).unwrap();
+        let decided = decide(mode, re as i16, im as i16);
+        assert_eq!(decided, Decision::State(nearest));
+    }
+}
+
+#[test]
+fn the_code_and_its_inverse_agree() {
+    for mode in &MODES {
+        for &reference in mode.states {
+            let mut reached = Vec::new();
+            for group in 0..1 << mode.width {
+                let state = code::next_state(mode, reference, group);
+                assert_eq!(code::group(mode, reference, state), group);
+                reached.push(state);
+            }
+            reached.sort();
+            assert_eq!(reached, mode.states);
+        }
+    }
+}
+
+#[test]
+fn turning_both_states_keeps_the_group() {
+    for mode in &MODES {
+        for &reference in mode.states {
+            for &state in mode.states {
+                let turned = (turn_state(mode, reference), turn_state(mode, state));
+                let group = code::group(mode, reference, state);
+                assert_eq!(code::group(mode, turned.0, turned.1), group);
+            }
+        }
+    }
+}
+
+#[test]
+fn phase_changes_are_those_of_document_01() {
+    let mode_1 = [("00", 0), ("01", 90), ("11", 180), ("10", 270)];
+    let mode_2 = [
+        ("001", 0),
+        ("000", 45),
+        ("010", 90),
+        ("011", 135),
+        ("111", 180),
+        ("110", 225),
+        ("100", 270),
+        ("101", 315),
+    ];
+    for (mode, changes) in [(&MODES[0], &mode_1[..]), (&MODES[1], &mode_2[..])] {
+        for &(bits, change) in changes {
+            let group = u8::from_str_radix(bits, 2).unwrap();
+            for &reference in mode.states {
+                let turned = (45 * i32::from(reference) + change) % 360;
+                let state = code::next_state(mode, reference, group);
+                assert_eq!(45 * i32::from(state), turned);
+            }
+        }
+    }
+}
+
+#[test]
+fn quadrants_turn_as_document_01_says() {
+    let ring = [0b00, 0b01, 0b11, 0b10];
+    let quarters = [1, 0, 2, 3];
+    for &(dibit, before, after) in &code::QUADRANT_CODE {
+        let place = |quadrant| ring.iter().position(|&q| q == quadrant).unwrap();
+        let turned = (place(before) + quarters[usize::from(dibit)]) % 4;
+        assert_eq!(place(after), turned);
+        let (from, to) = (4 * before + 0b01, 4 * after + 0b01);
+        assert_eq!(code::next_state(&MODES[2], from, dibit), to);
+    }
+}
