@@ -9,3 +9,5 @@ pub mod StateLaws
 pub mod CodeLaws
 pub mod RegionLaws
 pub mod SizeLaws
+pub mod ModeLaws
+pub mod Bench

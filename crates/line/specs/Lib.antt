@@ -4,3 +4,4 @@ pub mod Point
 pub mod Decide
 pub mod Code
 pub mod Sizes
+pub mod Bench
