@@ -1,11 +1,11 @@
 -- A value by mode, by the tests that the code makes. Assumes nothing.
 use Prim.Native.Nat.{ℕ, zero, suc, _+_, _-_, _<_, _≤_}
-use mathlib.Core.Path.{_≡_, refl, sym, ap, _∙_}
+use mathlib.Core.Path.{_≡_, refl, sym, ap, _∙_, subst}
 use mathlib.Core.List.{List, [], _∷_}
 use native.Mathlib.Omega.{arith}
 use native.Mathlib.Decide.{decLe}
 use lib.ListN.{getD}
-use Rattle.line.specs.Mode.{byMode}
+use Rattle.line.specs.Mode.{byMode, width, regLen}
 
 module _ {A : Type 0} (a b c d : A) where
   cell : (m i : ℕ) (v : A) → m - 1 ≡ i → getD (a ∷ b ∷ c ∷ d ∷ []) i d ≡ v → byMode m a b c d ≡ v
@@ -42,3 +42,21 @@ module _ {A : Type 0} (a c : A) where
       go : Dec (m ≤ 3) → byMode m a a c c ≡ c
       go (yes k) = mode-3 a a c c m (omega arith)
       go (no k) = mode-4 a a c c m (omega arith) (λ e. omega arith) (λ e. omega (arith, k))
+
+-- what holds of the four columns holds of a value by mode
+pub by-all : {A : Type 0} (P : A → Type 0) (a b c d : A) → P a → P b → P c → P d → (m : ℕ) → P (byMode m a b c d)
+by-all P a b c d pa pb pc pd zero = pa
+by-all P a b c d pa pb pc pd (suc zero) = pa
+by-all P a b c d pa pb pc pd (suc (suc zero)) = pb
+by-all P a b c d pa pb pc pd (suc (suc (suc zero))) = pc
+by-all P a b c d pa pb pc pd (suc (suc (suc (suc n)))) =
+    subst P (sym (mode-4 a b c d (suc (suc (suc (suc n)))) (omega arith) (λ e. omega arith) (λ e. omega arith))) pd
+
+-- 2 to 4 bits in a point, and a scrambler longer than that
+pub width-range : (m : ℕ) → (2 ≤ width m) × (width m ≤ 4)
+unfolding width
+width-range m = by-all (λ (w : ℕ). (2 ≤ w) × (w ≤ 4)) 2 3 2 4 (omega arith) (omega arith) (omega arith) (omega arith) m
+
+pub length-range : (m : ℕ) → (7 ≤ regLen m) × (regLen m ≤ 23)
+unfolding regLen
+length-range m = by-all (λ (w : ℕ). (7 ≤ w) × (w ≤ 23)) 7 7 23 23 (omega arith) (omega arith) (omega arith) (omega arith) m

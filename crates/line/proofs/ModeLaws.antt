@@ -107,10 +107,16 @@ unfolding modeTests stateTests isState
 of-state m x hm hx =
     let t : T (all (stateTests m x)) = every-at (λ z. all (stateTests m z)) (states m) x (tests m hm) hx in
     let at : (i : ℕ) → T (getD (stateTests m x) i true) = λ i. test-at (stateTests m x) i t in
-    record { turned = at 0; decided = is-state (decide m (sentPoint m x)) x (at 1); off = at 2; range = at 3;
-      whole = eqb→eq _ _ (at 4); small = ltb→lt x 16 (at 5);
+    record {
+      turned = at 0;
+      decided = is-state (decide m (sentPoint m x)) x (at 1);
+      off = at 2;
+      range = at 3;
+      whole = eqb→eq _ _ (at 4);
+      small = ltb→lt x 16 (at 5);
       pair = λ y hy. of-pair m x y (every-at (λ z. all (pairTests m x z)) (states m) y (at 6) hy);
-      groups = λ g hg. of-group m x g (below-at (λ z. all (groupTests m x z)) (2 ^ width m) (at 7) g hg) }
+      groups = λ g hg. of-group m x g (below-at (λ z. all (groupTests m x z)) (2 ^ width m) (at 7) g hg);
+    }
 
 -- two functions with one list of values on the members of a list
 same-or : (f g : ℕ → Point) (x y : ℕ) (t b : Bool) → eqb x y ≡ b → f y ≡ g y → (T t → f x ≡ g x) → T (b || t) → f x ≡ g x
@@ -130,7 +136,7 @@ unfolding isState
 sent-turned m x hm hx =
     same-at (λ s. sentPoint m (turns m (quarterSteps m) s)) (λ s. turned (sentPoint m s)) (states m) x
     (mode-cases (λ n. map (λ s. sentPoint n (turns n (quarterSteps n) s)) (states n) ≡ map (λ s. turned (sentPoint n s)) (states n))
-      (unfold states step turn quarterSteps sent27 sentPoint in refl) (unfold states step turn quarterSteps sent27 sentPoint in refl)
-      (unfold states step turn quarterSteps quadrant nextQuadrant levels32 sent32 sentPoint in refl)
-      (unfold states step turn quarterSteps quadrant nextQuadrant levels32 sent32 sentPoint in refl) m hm)
+    (unfold states step turn quarterSteps sent27 sentPoint in refl) (unfold states step turn quarterSteps sent27 sentPoint in refl)
+    (unfold states step turn quarterSteps quadrant nextQuadrant levels32 sent32 sentPoint in refl)
+    (unfold states step turn quarterSteps quadrant nextQuadrant levels32 sent32 sentPoint in refl) m hm)
     hx

@@ -87,6 +87,7 @@ off-turned (suc k) z o = swapped (turnedBy k z .re) (turnedBy k z .im) (off-turn
         and-swap true false = refl
         and-swap false true = refl
         and-swap false false = refl
+
         sizes : (x y : ℤ) → isOrigin (at (negℤ y) x) ≡ isOrigin (at x y)
         sizes x (pos zero) = unfold isOrigin in (and-swap true (eqb (natAbs x) 0))
         sizes x (pos (suc n)) = unfold isOrigin in (and-swap (eqb (suc n) 0) (eqb (natAbs x) 0))
@@ -112,7 +113,7 @@ turned-decide m k z j h l t o =
     let w : (i + k) % 4 ≡ j = eqb→eq _ _ (pairs-at (λ c d. eqb (((d + 3 * c) % 4 + c) % 4) d) tt k j h l) in
     turn-decide m (turnedBy k z) i li (turn-by m k z j l t) (off-turned k z o)
     ∙ ap₂ (λ (c : ℕ) (p : Point). turnedAnswer m c (first m p)) q
-      (turn-add i k z ∙ turn-mod (i + k) z (omega arith) ∙ ap (λ (n : ℕ). turnedBy n z) w)
+    (turn-add i k z ∙ turn-mod (i + k) z (omega arith) ∙ ap (λ (n : ℕ). turnedBy n z) w)
 
 -- Where a turn of a point of the plane's first quarter, re > 0 and im ≥ 0, lies in the first region
 module _ (m a b : ℕ) where
@@ -153,31 +154,50 @@ module _ (m : ℕ) (k : Region m) (z : Point) (a b c d : ℕ) (e : z ≡ at (sub
 -- mode 1: about state 0
 abbrev region-1 : (m : ℕ) → m ≤ 1 → Region m
 region-1 m h =
-    record { p = λ a b c d. suc (b + d); q = λ a b c d. c + a; r = λ a b c d. c + b; s = λ a b c d. a + d;
-      are = unfold inFirst in (λ a b c d. mode-1 _ _ _ _ m h ∙ within-difference a b c d) }
+    record {
+      p = λ a b c d. suc (b + d);
+      q = λ a b c d. c + a;
+      r = λ a b c d. c + b;
+      s = λ a b c d. a + d;
+      are = unfold inFirst in (λ a b c d. mode-1 _ _ _ _ m h ∙ within-difference a b c d);
+    }
 
 -- mode 2: im ≥ 0 and re > 0
 abbrev region-2 : (m : ℕ) → m ≡ 2 → Region m
 region-2 m h =
-    record { p = λ a b c d. 0 + d; q = λ a b c d. c + 0; r = λ a b c d. suc (0 + b); s = λ a b c d. a + 0;
-      are = unfold inFirst in (λ a b c d. mode-2 _ _ _ _ m h ∙ ap₂ _&&_ (less-difference 0 0 c d) (below-difference 0 0 a b)) }
+    record {
+      p = λ a b c d. 0 + d;
+      q = λ a b c d. c + 0;
+      r = λ a b c d. suc (0 + b);
+      s = λ a b c d. a + 0;
+      are = unfold inFirst in (λ a b c d. mode-2 _ _ _ _ m h ∙ ap₂ _&&_ (less-difference 0 0 c d) (below-difference 0 0 a b));
+    }
 
 -- mode 3: about C
 abbrev region-3 : (m : ℕ) → m ≡ 3 → Region m
 region-3 m h =
-    record { p = λ a b c d. suc (3 * b + d + (3 * d + a)); q = λ a b c d. 3 * c + b + (3 * a + c);
-      r = λ a b c d. 3 * c + b + (3 * b + d); s = λ a b c d. 3 * a + c + (3 * d + a);
+    record {
+      p = λ a b c d. suc (3 * b + d + (3 * d + a));
+      q = λ a b c d. 3 * c + b + (3 * a + c);
+      r = λ a b c d. 3 * c + b + (3 * b + d);
+      s = λ a b c d. 3 * a + c + (3 * d + a);
       are = unfold inFirst in (λ a b c d.
-        mode-3 _ _ _ _ m h
-        ∙ ap₂ within45 (ap (λ (x : ℤ). x +ℤ subℕ c d) (triple-difference a b) ∙ sum-difference (3 * a) (3 * b) c d)
+          mode-3 _ _ _ _ m h
+          ∙ ap₂ within45 (ap (λ (x : ℤ). x +ℤ subℕ c d) (triple-difference a b) ∙ sum-difference (3 * a) (3 * b) c d)
           (ap₂ _+ℤ_ (triple-difference c d) (negated-difference a b) ∙ sum-difference (3 * c) (3 * d) b a)
-        ∙ within-difference (3 * a + c) (3 * b + d) (3 * c + b) (3 * d + a)) }
+          ∙ within-difference (3 * a + c) (3 * b + d) (3 * c + b) (3 * d + a));
+    }
 
 -- mode 4: quadrant I
 abbrev region-4 : (m : ℕ) → 1 < m → (m ≡ 2 → ⊥) → (m ≡ 3 → ⊥) → Region m
 region-4 m h f g =
-    record { p = λ a b c d. 0 + b; q = λ a b c d. a + 0; r = λ a b c d. suc (0 + d); s = λ a b c d. c + 0;
-      are = unfold inFirst in (λ a b c d. mode-4 _ _ _ _ m h f g ∙ ap₂ _&&_ (less-difference 0 0 a b) (below-difference 0 0 c d)) }
+    record {
+      p = λ a b c d. 0 + b;
+      q = λ a b c d. a + 0;
+      r = λ a b c d. suc (0 + d);
+      s = λ a b c d. c + 0;
+      are = unfold inFirst in (λ a b c d. mode-4 _ _ _ _ m h f g ∙ ap₂ _&&_ (less-difference 0 0 a b) (below-difference 0 0 c d));
+    }
 
 -- the turn that lies in the first region, by mode
 module _ (m a b : ℕ) where
@@ -188,7 +208,8 @@ module _ (m a b : ℕ) where
         at-0 = inside m k _ (suc a) 0 b 0 (is-0 m a b) (omega arith) (omega arith);
         at-1 = not-r m k _ 0 b (suc a) 0 (is-1 m a b) (omega arith);
         at-2 = not-p m k _ 0 (suc a) 0 b (is-2 m a b) (omega arith);
-        at-3 = not-p m k _ b 0 0 (suc a) (is-3 m a b) (omega arith) }
+        at-3 = not-p m k _ b 0 0 (suc a) (is-3 m a b) (omega arith);
+      }
 
   pub turn-1-past : m ≤ 1 → suc a < b → Turn m (base m a b) 3
   turn-1-past h l =
@@ -197,7 +218,8 @@ module _ (m a b : ℕ) where
         at-0 = not-r m k _ (suc a) 0 b 0 (is-0 m a b) (omega arith);
         at-1 = not-r m k _ 0 b (suc a) 0 (is-1 m a b) (omega arith);
         at-2 = not-p m k _ 0 (suc a) 0 b (is-2 m a b) (omega arith);
-        at-3 = inside m k _ b 0 0 (suc a) (is-3 m a b) (omega arith) (omega arith) }
+        at-3 = inside m k _ b 0 0 (suc a) (is-3 m a b) (omega arith) (omega arith);
+      }
 
   pub turn-2 : m ≡ 2 → Turn m (base m a b) 0
   turn-2 h =
@@ -206,7 +228,8 @@ module _ (m a b : ℕ) where
         at-0 = inside m k _ (suc a) 0 b 0 (is-0 m a b) (omega arith) (omega arith);
         at-1 = not-r m k _ 0 b (suc a) 0 (is-1 m a b) (omega arith);
         at-2 = not-r m k _ 0 (suc a) 0 b (is-2 m a b) (omega arith);
-        at-3 = not-p m k _ b 0 0 (suc a) (is-3 m a b) (omega arith) }
+        at-3 = not-p m k _ b 0 0 (suc a) (is-3 m a b) (omega arith);
+      }
 
   pub turn-3 : m ≡ 3 → b ≤ 2 * suc a → Turn m (base m a b) 0
   turn-3 h l =
@@ -215,7 +238,8 @@ module _ (m a b : ℕ) where
         at-0 = inside m k _ (suc a) 0 b 0 (is-0 m a b) (omega arith) (omega arith);
         at-1 = not-r m k _ 0 b (suc a) 0 (is-1 m a b) (omega arith);
         at-2 = not-p m k _ 0 (suc a) 0 b (is-2 m a b) (omega arith);
-        at-3 = not-p m k _ b 0 0 (suc a) (is-3 m a b) (omega arith) }
+        at-3 = not-p m k _ b 0 0 (suc a) (is-3 m a b) (omega arith);
+      }
 
   pub turn-3-past : m ≡ 3 → 2 * suc a < b → Turn m (base m a b) 3
   turn-3-past h l =
@@ -224,7 +248,8 @@ module _ (m a b : ℕ) where
         at-0 = not-r m k _ (suc a) 0 b 0 (is-0 m a b) (omega arith);
         at-1 = not-r m k _ 0 b (suc a) 0 (is-1 m a b) (omega arith);
         at-2 = not-p m k _ 0 (suc a) 0 b (is-2 m a b) (omega arith);
-        at-3 = inside m k _ b 0 0 (suc a) (is-3 m a b) (omega arith) (omega arith) }
+        at-3 = inside m k _ b 0 0 (suc a) (is-3 m a b) (omega arith) (omega arith);
+      }
 
   pub turn-4 : 1 < m → (m ≡ 2 → ⊥) → (m ≡ 3 → ⊥) → 0 < b → Turn m (base m a b) 0
   turn-4 h f g l =
@@ -233,7 +258,8 @@ module _ (m a b : ℕ) where
         at-0 = inside m k _ (suc a) 0 b 0 (is-0 m a b) (omega arith) (omega arith);
         at-1 = not-p m k _ 0 b (suc a) 0 (is-1 m a b) (omega arith);
         at-2 = not-p m k _ 0 (suc a) 0 b (is-2 m a b) (omega arith);
-        at-3 = not-r m k _ b 0 0 (suc a) (is-3 m a b) (omega arith) }
+        at-3 = not-r m k _ b 0 0 (suc a) (is-3 m a b) (omega arith);
+      }
 
   pub turn-4-axis : 1 < m → (m ≡ 2 → ⊥) → (m ≡ 3 → ⊥) → b ≡ 0 → Turn m (base m a b) 1
   turn-4-axis h f g l =
@@ -242,4 +268,5 @@ module _ (m a b : ℕ) where
         at-0 = not-r m k _ (suc a) 0 b 0 (is-0 m a b) (omega arith);
         at-1 = inside m k _ 0 b (suc a) 0 (is-1 m a b) (omega arith) (omega arith);
         at-2 = not-p m k _ 0 (suc a) 0 b (is-2 m a b) (omega arith);
-        at-3 = not-r m k _ b 0 0 (suc a) (is-3 m a b) (omega arith) }
+        at-3 = not-r m k _ b 0 0 (suc a) (is-3 m a b) (omega arith);
+      }

@@ -13,4 +13,4 @@ pub cond-false : {A : Type 0} (b : Bool) (x y : A) → b ≡ false → cond b x 
 cond-false b x y e = ap (λ (t : Bool). cond t x y) e
 
 pub ruleset tests =
-  (needs, le-leb, lt-leb, eq-eqb, ne-eqb, lt-ltb, le-ltb, cond-true, cond-false, mode-1, mode-2, mode-3, mode-4, mode-short, mode-long)
+    (needs, le-leb, lt-leb, eq-eqb, ne-eqb, lt-ltb, le-ltb, cond-true, cond-false, mode-1, mode-2, mode-3, mode-4, mode-short, mode-long)

@@ -86,25 +86,71 @@ const SENT27: [Point; 8] = [
     Point { re: 4096, im: 0 },
     Point { re: 2896, im: 2896 },
     Point { re: 0, im: 4096 },
-    Point { re: -2896, im: 2896 },
+    Point {
+        re: -2896,
+        im: 2896,
+    },
     Point { re: -4096, im: 0 },
-    Point { re: -2896, im: -2896 },
+    Point {
+        re: -2896,
+        im: -2896,
+    },
     Point { re: 0, im: -4096 },
-    Point { re: 2896, im: -2896 },
+    Point {
+        re: 2896,
+        im: -2896,
+    },
 ];
+
 const SENT32: [Point; 16] = [
-    Point { re: -1024, im: -1024 },
-    Point { re: -3072, im: -1024 },
-    Point { re: -1024, im: -3072 },
-    Point { re: -3072, im: -3072 },
-    Point { re: 1024, im: -1024 },
-    Point { re: 1024, im: -3072 },
-    Point { re: 3072, im: -1024 },
-    Point { re: 3072, im: -3072 },
-    Point { re: -1024, im: 1024 },
-    Point { re: -1024, im: 3072 },
-    Point { re: -3072, im: 1024 },
-    Point { re: -3072, im: 3072 },
+    Point {
+        re: -1024,
+        im: -1024,
+    },
+    Point {
+        re: -3072,
+        im: -1024,
+    },
+    Point {
+        re: -1024,
+        im: -3072,
+    },
+    Point {
+        re: -3072,
+        im: -3072,
+    },
+    Point {
+        re: 1024,
+        im: -1024,
+    },
+    Point {
+        re: 1024,
+        im: -3072,
+    },
+    Point {
+        re: 3072,
+        im: -1024,
+    },
+    Point {
+        re: 3072,
+        im: -3072,
+    },
+    Point {
+        re: -1024,
+        im: 1024,
+    },
+    Point {
+        re: -1024,
+        im: 3072,
+    },
+    Point {
+        re: -3072,
+        im: 1024,
+    },
+    Point {
+        re: -3072,
+        im: 3072,
+    },
     Point { re: 1024, im: 1024 },
     Point { re: 3072, im: 1024 },
     Point { re: 1024, im: 3072 },
@@ -154,11 +200,7 @@ fn quarter(right: bool, up: bool, x: u32, y: u32) -> u8
     ensures { λ r. ⌜ r < 4 ⌝ }
 {
     if right {
-        if up {
-            if x == 0 { 1 } else { 0 }
-        } else {
-            3
-        }
+        if up { if x == 0 { 1 } else { 0 } } else { 3 }
     } else if up {
         if y == 0 { 2 } else { 1 }
     } else {
@@ -172,9 +214,17 @@ fn arc_from(k: u8, x: u32, y: u32) -> Arc
     ensures { λ r. ⌜ Bounded r ⌝ }
 {
     if k % 2 == 0 {
-        Arc { quarters: k, along: x, across: y }
+        Arc {
+            quarters: k,
+            along: x,
+            across: y,
+        }
     } else {
-        Arc { quarters: k, along: y, across: x }
+        Arc {
+            quarters: k,
+            along: y,
+            across: x,
+        }
     }
 }
 
@@ -280,7 +330,9 @@ pub fn decide(mode: u8, re: i16, im: i16) -> Decision
 // 000's tables 2 and 1: the changes of 2 and of 3 bits, in turns of 90° and of 45°. 001's table 1: the new Y1 Y2 by
 // Q1 Q2 and the previous Y1 Y2. Sender and receiver both read them.
 const CHANGES4: [u8; 4] = [0, 1, 3, 2];
+
 const CHANGES8: [u8; 8] = [1, 0, 2, 3, 6, 7, 5, 4];
+
 const CHANGES16: [u8; 16] = [1, 3, 0, 2, 0, 1, 2, 3, 3, 2, 1, 0, 2, 0, 3, 1];
 
 fn change4(g: usize) -> u8

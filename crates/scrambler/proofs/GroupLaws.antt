@@ -1,0 +1,214 @@
+-- Descrambling: the marks stand in front, the scrambler is undone, and what the functions compute of a group. Assumes nothing.
+use Prim.Native.Nat.{ℕ, zero, suc, _+_, _*_, _-_, _^_, _/_, _%_, _<_, _≤_, min}
+use mathlib.Core.Path.{_≡_, refl, sym, _∙_, ap, ap₂, subst}
+use mathlib.Core.Bool.{Bool, true, false, _&&_}
+use mathlib.Core.List.{List, [], _∷_, _++_, map}
+use native.Mathlib.Nat.{mod-lt, mod-eq-of-lt, mul-assoc, mul-add-mod-self-right}
+use native.Mathlib.Omega.{arith}
+use borrow.Author.Tests.{le-leb, lt-leb}
+use lib.Dec.{T, leb, ltb, ltb→lt, lt→ltb}
+use lib.ListN.{length, drop}
+use lib.Bits.{bitXor}
+use lib.Pow.{pow-pos, pow-add}
+use Rattle.line.specs.Table.{every}
+use Rattle.line.specs.Mode.{width, regLen}
+use Rattle.line.proofs.TableLaws.{and-left, and-right, and-intro}
+use Rattle.line.proofs.ByMode.{width-range, length-range}
+use Rattle.scrambler.specs.declared.Register.{Register}
+use Rattle.scrambler.specs.declared.Scrambled.{Scrambled}
+use Rattle.scrambler.specs.declared.Descrambled.{Descrambled}
+use Rattle.scrambler.specs.Bits.{isBit, bits, value}
+use Rattle.scrambler.specs.Register.{register, nearTap, push, pushes}
+use Rattle.scrambler.specs.Scramble.{mix, scramble, Datum, unsettled, settled, mark, descramble}
+use Rattle.scrambler.specs.Group.{scrambled, plainOf, unsettledIn, descrambled, marked}
+use Rattle.scrambler.specs.Windows.{mixedAtOnce}
+use Rattle.scrambler.proofs.BitLaws.{length-bits, bits-are, value-bits, value-small, bits-value, bits-same}
+use Rattle.scrambler.proofs.RegisterLaws.{push-group, full-push}
+use Rattle.scrambler.proofs.WindowLaws.{mix-small, unmixed, scramble-at-once, unmixed-at-once}
+
+-- lengths, and bits that are bits
+pub length-scramble : (m role : ℕ) (h : Register) (ds : List ℕ) → length (scramble m role h ds) ≡ length ds
+length-scramble m role h [] = refl
+length-scramble m role h (d ∷ ds) = ap suc (length-scramble m role (push m h (mix m role h d)) ds)
+
+pub bits-scramble : (m role : ℕ) (h : Register) (ds : List ℕ) → T (every isBit (scramble m role h ds))
+unfolding isBit
+bits-scramble m role h [] = tt
+bits-scramble m role h (d ∷ ds) =
+    and-intro (ltb (mix m role h d) 2) _ (lt→ltb _ 2 (mix-small m role h d)) (bits-scramble m role (push m h (mix m role h d)) ds)
+
+length-unmixed : (m role : ℕ) (h : Register) (bs : List ℕ) → length (unmixed m role h bs) ≡ length bs
+length-unmixed m role h [] = refl
+length-unmixed m role h (b ∷ bs) = ap suc (length-unmixed m role (push m h b) bs)
+
+bits-unmixed : (m role : ℕ) (h : Register) (bs : List ℕ) → T (every isBit (unmixed m role h bs))
+unfolding isBit
+bits-unmixed m role h [] = tt
+bits-unmixed m role h (b ∷ bs) =
+    and-intro (ltb (mix m role h b) 2) _ (lt→ltb _ 2 (mix-small m role h b)) (bits-unmixed m role (push m h b) bs)
+
+-- THE SCRAMBLER IS UNDONE
+
+mix-mix : (m role : ℕ) (h : Register) (d : ℕ) → d < 2 → mix m role h (mix m role h d) ≡ d
+unfolding mix
+mix-mix m role h d p = omega arith
+
+pub unscramble : (m role : ℕ) (h : Register) (ds : List ℕ) → regLen m ≤ h .held .0 → T (every isBit ds)
+    → descramble m role h (scramble m role h ds) ≡ map settled ds
+unfolding isBit
+unscramble m role h [] p t = refl
+unscramble m role h (d ∷ ds) p t =
+    rw (
+      le-leb (regLen m) (h .held .0) p,
+      mix-mix m role h d (ltb→lt d 2 (and-left (ltb d 2) (every isBit ds) t)),
+      unscramble m role (push m h (mix m role h d)) ds (full-push m h (mix m role h d) p) (and-right (ltb d 2) (every isBit ds) t),
+    )
+
+pub descramble-append : (m role : ℕ) (h : Register) (cs bs : List ℕ)
+    → descramble m role h (cs ++ bs) ≡ descramble m role h cs ++ descramble m role (pushes m h cs) bs
+descramble-append m role h [] bs = refl
+descramble-append m role h (c ∷ cs) bs =
+    ap (λ (t : List Datum). mark (leb (regLen m) (h .held .0)) (mix m role h c) ∷ t) (descramble-append m role (push m h c) cs bs)
+
+pub length-descramble : (m role : ℕ) (h : Register) (bs : List ℕ) → length (descramble m role h bs) ≡ length bs
+length-descramble m role h [] = refl
+length-descramble m role h (b ∷ bs) = ap suc (length-descramble m role (push m h b) bs)
+
+-- THE MARKS STAND IN FRONT
+
+held-push : (m : ℕ) (h : Register) (b : ℕ) → push m h b .held .0 ≡ min (h .held .0 + 1) (regLen m)
+unfolding push
+held-push m h b = refl
+
+marked-unmixed : (m role u : ℕ) (h : Register) (bs : List ℕ) → regLen m - h .held .0 ≡ u → descramble m role h bs ≡ marked u (unmixed m role h bs)
+marked-unmixed m role u h [] e = refl
+marked-unmixed m role zero h (b ∷ bs) e =
+    rw (le-leb (regLen m) (h .held .0) (omega arith))
+    (ap (λ (t : List Datum). settled (mix m role h b) ∷ t) (marked-unmixed m role zero (push m h b) bs (omega (arith, held-push m h b))))
+marked-unmixed m role (suc u) h (b ∷ bs) e =
+    rw (lt-leb (regLen m) (h .held .0) (omega arith))
+    (ap (λ (t : List Datum). unsettled ∷ t) (marked-unmixed m role u (push m h b) bs (omega (arith, held-push m h b))))
+
+length-marked : (u : ℕ) (bs : List ℕ) → length (marked u bs) ≡ length bs
+length-marked u [] = refl
+length-marked zero (b ∷ bs) = ap suc (length-marked zero bs)
+length-marked (suc u) (b ∷ bs) = ap suc (length-marked u bs)
+
+unsettled-marked : (u : ℕ) (bs : List ℕ) → unsettledIn (marked u bs) ≡ min u (length bs)
+unsettled-marked u [] = omega arith
+unsettled-marked zero (b ∷ bs) = unsettled-marked zero bs ∙ (let e : min 0 (length bs) ≡ min 0 (suc (length bs)) = omega arith in e)
+unsettled-marked (suc u) (b ∷ bs) = ap suc (unsettled-marked u bs) ∙ (let e : suc (min u (length bs)) ≡ min (suc u) (suc (length bs)) = omega arith in e)
+
+plain-marked : (u : ℕ) (bs : List ℕ) → T (every isBit bs) → plainOf (marked u bs) ≡ value bs % 2 ^ (length bs - u)
+unfolding isBit
+plain-marked u [] t = sym (mod-eq-of-lt (pow-pos (0 - u)))
+plain-marked zero (b ∷ bs) t =
+    let ht : T (every isBit bs) = and-right (ltb b 2) (every isBit bs) t in
+    let v : value (b ∷ bs) < 2 ^ length (b ∷ bs) = value-small (b ∷ bs) t in
+    let i : plainOf (marked zero bs) ≡ value bs = plain-marked zero bs ht ∙ ap (λ (n : ℕ). value bs % 2 ^ n) (let e : length bs - 0 ≡ length bs = omega arith in e) ∙ mod-eq-of-lt (value-small bs ht) in
+    ap₂ (λ (n k : ℕ). b * 2 ^ n + k) (length-marked zero bs) i ∙ sym (mod-eq-of-lt v)
+    ∙ ap (λ (n : ℕ). value (b ∷ bs) % 2 ^ n) (let e : suc (length bs) ≡ suc (length bs) - 0 = omega arith in e)
+plain-marked (suc u) (b ∷ bs) t =
+    let ht : T (every isBit bs) = and-right (ltb b 2) (every isBit bs) t in
+    plain-marked u bs ht
+    ∙ rest u b bs (value-small bs ht)
+  where
+    rest : (u b : ℕ) (bs : List ℕ) → value bs < 2 ^ length bs → value bs % 2 ^ (length bs - u) ≡ (b * 2 ^ length bs + value bs) % 2 ^ (suc (length bs) - suc u)
+    rest u b bs v =
+        let k : ℕ = length bs - u in
+        let e : length bs ≡ length bs - k + k = omega arith in
+        let f : suc (length bs) - suc u ≡ k = omega arith in
+        let p : b * 2 ^ length bs ≡ b * 2 ^ (length bs - k) * 2 ^ k =
+        ap (λ (n : ℕ). b * 2 ^ n) e ∙ ap (λ (n : ℕ). b * n) (pow-add 2 (length bs - k) k) ∙ sym (mul-assoc b (2 ^ (length bs - k)) (2 ^ k)) in
+        sym (mul-add-mod-self-right (b * 2 ^ (length bs - k)) (2 ^ k) (value bs))
+        ∙ ap₂ (λ (x n : ℕ). (x + value bs) % 2 ^ n) (sym p) (sym f)
+
+-- the numbers give the bits and marks back
+read-marked : (u : ℕ) (bs : List ℕ) → T (every isBit bs) → marked (unsettledIn (marked u bs)) (bits (length bs) (plainOf (marked u bs))) ≡ marked u bs
+unfolding isBit
+read-marked u [] t = refl
+read-marked zero (b ∷ bs) t =
+    let n : unsettledIn (marked zero (b ∷ bs)) ≡ 0 = unsettled-marked zero (b ∷ bs) ∙ (let e : min 0 (suc (length bs)) ≡ 0 = omega arith in e) in
+    let p : plainOf (marked zero (b ∷ bs)) ≡ value (b ∷ bs) =
+    plain-marked zero (b ∷ bs) t ∙ ap (λ (k : ℕ). value (b ∷ bs) % 2 ^ k) (let e : suc (length bs) - 0 ≡ suc (length bs) = omega arith in e)
+    ∙ mod-eq-of-lt (value-small (b ∷ bs) t) in
+    ap₂ (λ (i j : ℕ). marked i (bits (suc (length bs)) j)) n p ∙ ap (marked zero) (bits-value (b ∷ bs) t)
+read-marked (suc u) (b ∷ bs) t =
+    ap (λ (ds : List Datum). unsettled ∷ ds) (read-marked u bs (and-right (ltb b 2) (every isBit bs) t))
+
+-- WHAT THE FUNCTIONS COMPUTE
+
+pub mixed-law : (m role n x w a full r : ℕ) → w ≡ width m → a ≡ nearTap m role → full ≡ regLen m
+    → r ≡ bitXor (bitXor x (n / 2 ^ (a - w))) (n / 2 ^ (full - w)) % 2 ^ width m → r ≡ mixedAtOnce m role n x
+unfolding mixedAtOnce
+mixed-law m role n x w a full r ew ea ef e =
+    e ∙ ap₂ (λ (i j : ℕ). bitXor (bitXor x (n / 2 ^ i)) (n / 2 ^ j) % 2 ^ width m)
+    (ap₂ (λ (i j : ℕ). i - j) ea ew) (ap₂ (λ (i j : ℕ). i - j) ef ew)
+
+width-suc : (m : ℕ) → suc (width m - 1) ≡ width m
+width-suc m = let z = width-range m .0 in omega arith
+
+-- the register after a group
+pub push-law : (m : ℕ) (h : Register) (g w full low size next held : ℕ) → w ≡ width m → full ≡ regLen m → low ≡ g % 2 ^ width m → size ≡ 2 ^ w
+    → next ≡ (h .bits * size + low) % 2 ^ regLen m → held ≡ min (h .held .0 + w) full
+    → _≡_ {A = Register} (record { bits = next; held = record { 0 = held } }) (pushes m h (bits (width m) g))
+push-law m h g w full low size next held ew ef el es en eh =
+    same-register
+    (en ∙ ap₂ (λ (i j : ℕ). (h .bits * i + j) % 2 ^ regLen m) (es ∙ ap (λ (i : ℕ). 2 ^ i) ew) el)
+    (eh ∙ ap₂ (λ (i j : ℕ). min (h .held .0 + i) j) ew ef)
+    ∙ sym (subst (λ (k : ℕ). pushes m h (bits k g) ≡ register ((h .bits * 2 ^ k + g % 2 ^ k) % 2 ^ regLen m) (min (h .held .0 + k) (regLen m))) (width-suc m) (push-group m h (width m - 1) g))
+  where
+    same-register : {a b c d : ℕ} → a ≡ b → c ≡ d → register a c ≡ register b d
+    same-register p q = λ i. record { bits = p i; held = record { 0 = q i } }
+
+pub scramble-law : (m role d line : ℕ) (h next : Register) → line ≡ mixedAtOnce m role (h .bits) d → next ≡ pushes m h (bits (width m) line)
+    → _≡_ {A = Scrambled} (record { line = line; next = next }) (scrambled m role h d)
+unfolding scrambled
+scramble-law m role d line h next e f =
+    let l : List ℕ = scramble m role h (bits (width m) d) in
+    let v : line ≡ value l = e ∙ sym (scramble-at-once m role h d) in
+    let n : length l ≡ width m = length-scramble m role h (bits (width m) d) ∙ length-bits (width m) d in
+    let b : bits (width m) line ≡ l = ap₂ bits (sym n) v ∙ bits-value l (bits-scramble m role h (bits (width m) d)) in
+    let g : next ≡ pushes m h l = f ∙ ap (pushes m h) b in
+    λ i. record { line = v i; next = g i }
+
+-- the data bits of a group, as the answer has them
+module _ (m role : ℕ) (h : Register) (g : ℕ) where
+  group-marks : descramble m role h (bits (width m) g) ≡ marked (regLen m - h .held .0) (unmixed m role h (bits (width m) g))
+  group-marks = marked-unmixed m role (regLen m - h .held .0) h (bits (width m) g) refl
+
+  group-length : length (unmixed m role h (bits (width m) g)) ≡ width m
+  group-length = length-unmixed m role h (bits (width m) g) ∙ length-bits (width m) g
+
+  group-unsettled : unsettledIn (descramble m role h (bits (width m) g)) ≡ min (regLen m - h .held .0) (width m)
+  group-unsettled =
+      ap unsettledIn group-marks ∙ unsettled-marked (regLen m - h .held .0) (unmixed m role h (bits (width m) g)) ∙ ap (min (regLen m - h .held .0)) group-length
+
+  group-plain : plainOf (descramble m role h (bits (width m) g)) ≡ mixedAtOnce m role (h .bits) g % 2 ^ (width m - (regLen m - h .held .0))
+  group-plain =
+      ap plainOf group-marks ∙ plain-marked (regLen m - h .held .0) (unmixed m role h (bits (width m) g)) (bits-unmixed m role h (bits (width m) g))
+      ∙ ap₂ (λ (x k : ℕ). x % 2 ^ (k - (regLen m - h .held .0))) (unmixed-at-once m role h g) group-length
+
+  pub descramble-law : (w full u all plain : ℕ) (next : Register) → w ≡ width m → full ≡ regLen m → u ≡ min (full - h .held .0) w → all ≡ mixedAtOnce m role (h .bits) g
+      → plain ≡ all % 2 ^ (w - u) → next ≡ pushes m h (bits (width m) g)
+      → _≡_ {A = Descrambled} (record { plain = plain; unsettled = record { 0 = u }; next = next }) (descrambled m role h g)
+  unfolding descrambled
+  descramble-law w full u all plain next ew ef eu ea ep en =
+      let x : u ≡ unsettledIn (descramble m role h (bits (width m) g)) = eu ∙ ap₂ (λ (i j : ℕ). min (i - h .held .0) j) ef ew ∙ sym group-unsettled in
+      let k : w - u ≡ width m - (regLen m - h .held .0) = omega arith in
+      let y : plain ≡ plainOf (descramble m role h (bits (width m) g)) = ep ∙ ap₂ (λ (i j : ℕ). i % 2 ^ j) ea k ∙ sym group-plain in
+      λ i. record { plain = y i; unsettled = record { 0 = x i }; next = en i }
+
+  -- a group's marks and data bits are read back from the numbers
+  pub group-read : marked (unsettledIn (descramble m role h (bits (width m) g))) (bits (width m) (plainOf (descramble m role h (bits (width m) g)))) ≡ descramble m role h (bits (width m) g)
+  group-read =
+      subst (λ (ds : List Datum). marked (unsettledIn ds) (bits (width m) (plainOf ds)) ≡ ds) (sym group-marks)
+      (subst (λ (w : ℕ). marked (unsettledIn ds₀) (bits w (plainOf ds₀)) ≡ ds₀) group-length
+      (read-marked (regLen m - h .held .0) (unmixed m role h (bits (width m) g)) (bits-unmixed m role h (bits (width m) g))))
+    where
+      ds₀ : List Datum
+      ds₀ = marked (regLen m - h .held .0) (unmixed m role h (bits (width m) g))
+
+pub mixed-small : (m role n x : ℕ) → mixedAtOnce m role n x < 2 ^ width m
+unfolding mixedAtOnce
+mixed-small m role n x = mod-lt (bitXor (bitXor x (n / 2 ^ (nearTap m role - width m))) (n / 2 ^ (regLen m - width m))) (pow-pos (width m))

@@ -1,0 +1,4 @@
+pub mod BitLaws
+pub mod WindowLaws
+pub mod RegisterLaws
+pub mod GroupLaws

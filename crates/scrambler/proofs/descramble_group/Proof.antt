@@ -1,0 +1,57 @@
+use Rattle.line.specs.Mode.{width}
+use Prim.Native.Nat.{ℕ, _^_, _<_}
+use mathlib.Core.Path.{sym, subst}
+use Rattle.scrambler.proofs.GroupLaws.{descramble-law, mixed-small}
+use Rattle.line.proofs.ByMode.{width-range, length-range}
+use native.Mathlib.Omega.{arith}
+use borrow.Author.Needs.{needs}
+use Rattle.scrambler.proofs.descramble_group.Statement.{statement}
+use Rattle.scrambler.proofs.descramble_group.Tie as tie
+use Rattle.scrambler.proofs.descramble_group.Reads as reads
+use Rattle.scrambler.proofs.descramble_group.Lts as lts
+use Rattle.line.proofs.length_of.Reads as length-of-reads
+use Rattle.line.proofs.width_of.Reads as width-of-reads
+use Rattle.scrambler.proofs.mixed.Reads as mixed-reads
+use Rattle.scrambler.proofs.push_group.Reads as push-group-reads
+use Rattle.scrambler.proofs.unsettled_bits.Reads as unsettled-bits-reads
+use Rattle.scrambler.proofs.without_first.Reads as without-first-reads
+
+-- src/lib.rt:179:9
+width-of-requires : tie.Need-width-of-requires
+width-of-requires c κs = search needs
+
+-- src/lib.rt:180:31
+length-of-requires : tie.Need-length-of-requires
+length-of-requires c κs = search needs
+
+-- src/lib.rt:180:9
+unsettled-bits-requires : tie.Need-unsettled-bits-requires
+unsettled-bits-requires c κs = search needs
+
+-- src/lib.rt:181:9
+mixed-requires : tie.Need-mixed-requires
+mixed-requires c κs = search needs
+
+-- src/lib.rt:183:16
+without-first-requires : tie.Need-without-first-requires
+without-first-requires c κs = (omega arith, omega (arith, width-range (c .before .before .before .before .args .mode)), subst (λ (k : ℕ). c .mixed .result < 2 ^ k) (sym (c .before .before .before .width-of .ensures)) (subst (λ (x : ℕ). x < 2 ^ width (c .before .before .before .before .args .mode)) (sym (c .mixed .ensures .0)) (mixed-small (c .before .before .before .before .args .mode) (c .before .before .before .before .args .role) (c .before .before .before .before .args .h .bits) (c .before .before .before .before .args .line))))
+
+-- src/lib.rt:185:15
+push-group-requires : tie.Need-push-group-requires
+push-group-requires c κs = search needs
+
+-- src/lib.rt:175:1
+returns : tie.Need-returns
+returns c = search descramble-law depth 9
+
+pub descramble-group-spec : {M : Type 1} → statement M
+descramble-group-spec =
+    tie.close
+    (tie.spec
+    width-of-requires
+    length-of-requires
+    unsettled-bits-requires
+    mixed-requires
+    without-first-requires
+    push-group-requires
+    returns)

@@ -1,0 +1,27 @@
+use Rattle.line.proofs.ByMode.{width-range, length-range}
+use native.Mathlib.Omega.{arith}
+use Rattle.scrambler.proofs.RegisterLaws.{ok-law, not-ok-law}
+use borrow.Author.Needs.{needs}
+use Rattle.scrambler.proofs.register_ok.Statement.{statement}
+use Rattle.scrambler.proofs.register_ok.Tie as tie
+use Rattle.scrambler.proofs.register_ok.Reads as reads
+use Rattle.scrambler.proofs.register_ok.Lts as lts
+use Rattle.line.proofs.length_of.Reads as length-of-reads
+
+length-of-requires : tie.Need-length-of-requires
+length-of-requires c κs = search needs
+
+cast-result : tie.Need-cast-result
+cast-result c = search needs
+
+shr-result : tie.Need-shr-result
+shr-result c = omega (arith, length-range (c .before .before .args .mode) .1)
+
+returns : tie.Need-returns
+returns c = search ok-law
+
+returns-2 : tie.Need-returns-2
+returns-2 c = search not-ok-law
+
+pub register-ok-spec : {M : Type 1} → statement M
+register-ok-spec = tie.close (tie.spec length-of-requires cast-result shr-result returns returns-2)

@@ -1,0 +1,5 @@
+pub mod Bits
+pub mod Register
+pub mod Scramble
+pub mod Group
+pub mod Windows
