@@ -11,3 +11,4 @@ pub mod RegionLaws
 pub mod SizeLaws
 pub mod ModeLaws
 pub mod Bench
+pub mod RefusalLaws

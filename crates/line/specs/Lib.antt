@@ -5,3 +5,4 @@ pub mod Decide
 pub mod Code
 pub mod Sizes
 pub mod Bench
+pub mod Refusal

@@ -1,0 +1,27 @@
+-- What no refusal says of the needs. Assumes nothing.
+use Prim.Native.Nat.{ℕ, zero, suc}
+use mathlib.Core.Path.{_≡_, refl, sym, ap, subst}
+use mathlib.Core.Bool.{Bool, true, false}
+use native.Mathlib.Omega.{arith}
+use lib.Dec.{T}
+use Rattle.line.specs.Refusal.{need, orNext}
+
+pub need-met : (b : Bool) (n k : ℕ) → need b (suc n) k ≡ 0 → T b
+need-met true n k e = tt
+need-met false n k e = absurd (omega arith)
+
+pub need-rest : (b : Bool) (n k : ℕ) → need b (suc n) k ≡ 0 → k ≡ 0
+need-rest true n k e = e
+need-rest false n k e = absurd (omega arith)
+
+pub need-intro : (b : Bool) (n k : ℕ) → T b → k ≡ 0 → need b n k ≡ 0
+need-intro true n k t e = e
+need-intro false n k t e = absurd t
+
+pub next-first : (a b : ℕ) → orNext a b ≡ 0 → a ≡ 0
+next-first zero b e = refl
+next-first (suc a) b e = absurd (omega arith)
+
+pub next-rest : (a b : ℕ) → orNext a b ≡ 0 → b ≡ 0
+next-rest zero b e = e
+next-rest (suc a) b e = absurd (omega arith)

@@ -1,0 +1,18 @@
+-- Document 01, "Refusals": "the lowest that applies is given, and only when its condition holds". A refusal is its number, 0 is none.
+use Prim.Native.Nat.{ℕ, zero, suc}
+use mathlib.Core.Bool.{Bool, true, false}
+
+-- the number n unless the need is met, and then what the later needs say
+abbrev pub need : Bool → ℕ → ℕ → ℕ
+need true n rest = rest
+need false n rest = n
+
+-- the first of two refusals
+abbrev pub orNext : ℕ → ℕ → ℕ
+orNext zero rest = rest
+orNext (suc n) rest = suc n
+
+-- what an accepted call gives, or what a refused one leaves
+abbrev pub accepted : {A : Type 0} → ℕ → A → A → A
+accepted zero a b = a
+accepted (suc n) a b = b
