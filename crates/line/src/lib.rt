@@ -177,7 +177,7 @@ fn not_below(x: i16) -> bool
 }
 
 // The size of a coordinate.
-fn size(x: i16) -> u32
+pub fn size(x: i16) -> u32
     ensures { λ r. ⌜ r ≡ natAbs x ⌝ }
     ensures { λ r. ⌜ r ≤ 32768 ⌝ }
 {
