@@ -12,3 +12,4 @@ pub mod SizeLaws
 pub mod ModeLaws
 pub mod Bench
 pub mod RefusalLaws
+pub mod DecideLaws

@@ -38,7 +38,7 @@ turn-next m z j i t p q r s =
 abbrev pub before : ℕ → ℕ
 before j = (j + 3) % 4
 
-turn-before : (m : ℕ) (z : Point) (j : ℕ) → j < 4 → Turn m z j → Turn m (turned z) (before j)
+pub turn-before : (m : ℕ) (z : Point) (j : ℕ) → j < 4 → Turn m z j → Turn m (turned z) (before j)
 turn-before m z zero h t = turn-next m z 0 3 t refl refl refl refl
 turn-before m z (suc zero) h t = turn-next m z 1 0 t refl refl refl refl
 turn-before m z (suc (suc zero)) h t = turn-next m z 2 1 t refl refl refl refl
@@ -60,7 +60,7 @@ turn-decide m z j h t o =
     rw (o, turn-quarters m z j h t, e)
 
 -- turns one after the other
-turn-add : (i k : ℕ) (z : Point) → turnedBy i (turnedBy k z) ≡ turnedBy (i + k) z
+pub turn-add : (i k : ℕ) (z : Point) → turnedBy i (turnedBy k z) ≡ turnedBy (i + k) z
 turn-add zero k z = ap (λ (n : ℕ). turnedBy n z) (let e : k ≡ 0 + k = omega arith in e)
 turn-add (suc i) k z = ap turned (turn-add i k z) ∙ ap (λ (n : ℕ). turnedBy n z) (let e : suc (i + k) ≡ suc i + k = omega arith in e)
 
@@ -75,25 +75,24 @@ turn-mod (suc (suc (suc (suc (suc (suc zero)))))) z h = ap (turnedBy 2) (turn-fo
 turn-mod (suc (suc (suc (suc (suc (suc (suc zero))))))) z h = ap (turnedBy 3) (turn-four z)
 turn-mod (suc (suc (suc (suc (suc (suc (suc (suc n)))))))) z h = absurd (omega arith)
 
+and-swap : (a b : Bool) → a && b ≡ b && a
+and-swap true true = refl
+and-swap true false = refl
+and-swap false true = refl
+and-swap false false = refl
+
+-- a turn takes the origin to itself, and nothing else there
+pub origin-turned : (x y : ℤ) → isOrigin (turned (at x y)) ≡ isOrigin (at x y)
+unfolding isOrigin
+origin-turned x (pos zero) = and-swap true (eqb (natAbs x) 0)
+origin-turned x (pos (suc n)) = and-swap (eqb (suc n) 0) (eqb (natAbs x) 0)
+origin-turned x (negsuc n) = and-swap (eqb (suc n) 0) (eqb (natAbs x) 0)
+
 pub off-turned : (k : ℕ) (z : Point) → isOrigin z ≡ false → isOrigin (turnedBy k z) ≡ false
 off-turned zero z o = o
-off-turned (suc k) z o = swapped (turnedBy k z .re) (turnedBy k z .im) (off-turned k z o)
-  where
-    swapped : (x y : ℤ) → isOrigin (at x y) ≡ false → isOrigin (at (negℤ y) x) ≡ false
-    swapped x y e = sizes x y ∙ e
-      where
-        and-swap : (a b : Bool) → a && b ≡ b && a
-        and-swap true true = refl
-        and-swap true false = refl
-        and-swap false true = refl
-        and-swap false false = refl
+off-turned (suc k) z o = origin-turned (turnedBy k z .re) (turnedBy k z .im) ∙ off-turned k z o
 
-        sizes : (x y : ℤ) → isOrigin (at (negℤ y) x) ≡ isOrigin (at x y)
-        sizes x (pos zero) = unfold isOrigin in (and-swap true (eqb (natAbs x) 0))
-        sizes x (pos (suc n)) = unfold isOrigin in (and-swap (eqb (suc n) 0) (eqb (natAbs x) 0))
-        sizes x (negsuc n) = unfold isOrigin in (and-swap (eqb (suc n) 0) (eqb (natAbs x) 0))
-
-turn-by : (m k : ℕ) (z : Point) (j : ℕ) → j < 4 → Turn m z j → Turn m (turnedBy k z) ((j + 3 * k) % 4)
+pub turn-by : (m k : ℕ) (z : Point) (j : ℕ) → j < 4 → Turn m z j → Turn m (turnedBy k z) ((j + 3 * k) % 4)
 turn-by m zero z j h t = subst (Turn m z) (let e : j ≡ (j + 3 * 0) % 4 = omega arith in e) t
 turn-by m (suc k) z j h t =
     subst (Turn m (turnedBy (suc k) z)) (let e : ((j + 3 * k) % 4 + 3) % 4 ≡ (j + 3 * suc k) % 4 = omega arith in e)
