@@ -51,19 +51,13 @@ fn hex(value: u8) -> char {
     char::from_digit(u32::from(value), 16).unwrap_or('?')
 }
 
-/// Sent points, turns, decided points and the differential code both ways.
+/// Sent points, decided points and the differential code both ways.
 fn print_line(text: &mut String) {
     for mode in &MODES {
         for &state in mode.states {
             let sent = point::sent(mode, state);
             let (m, re, im) = (mode.number, sent.re, sent.im);
             text.push_str(&format!("sent {m} {state} {re} {im}\n"));
-        }
-    }
-    for mode in &MODES {
-        for &state in mode.states {
-            let turned = point::turn_state(mode, state);
-            text.push_str(&format!("turn {} {state} {turned}\n", mode.number));
         }
     }
     MODES.iter().for_each(|mode| print_decisions(text, mode));
