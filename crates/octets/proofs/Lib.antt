@@ -1,0 +1,5 @@
+pub mod Tests
+pub mod Sets
+pub mod Numbers
+pub mod Signs
+pub mod Loops

@@ -1,0 +1,67 @@
+-- Laws of `sets`, a run of stores into a list. Assumes nothing.
+use mathlib.Core.Path.{_≡_, refl, sym, ap, _∙_, subst}
+use mathlib.Core.Logic.{_≢_, ⊎-elim, _⊎_, inl, inr}
+use mathlib.Core.List.{List, [], _∷_, _++_}
+use Prim.Native.Nat.{ℕ, zero, suc, _+_, _*_, _-_, _≤_, _<_}
+use native.Mathlib.Nat.{add-suc, suc-add}
+use native.Mathlib.Omega.{arith}
+use lib.ListN.{length, getD, set, take, drop, length-set}
+use lib.Seq.{sets, length-sets, take-set-le, drop-set-lt, take-set-lt, drop-set-add, getD-set-same, getD-set-other, set-out}
+
+module _ {A : Type 0} where
+  pub take-sets-le : (vs l : List A) (n i : ℕ) → n ≤ i → take n (sets l i vs) ≡ take n l
+  take-sets-le [] l n i h = refl
+  take-sets-le (v ∷ vs) l n i h = take-sets-le vs (set l i v) n (suc i) (omega arith) ∙ take-set-le n l i v h
+
+  pub drop-sets-le : (vs l : List A) (n i : ℕ) → i + length vs ≤ n → drop n (sets l i vs) ≡ drop n l
+  drop-sets-le [] l n i h = refl
+  drop-sets-le (v ∷ vs) l n i h = drop-sets-le vs (set l i v) n (suc i) (omega arith) ∙ drop-set-lt n l i v (omega arith)
+
+  pub take-sets-in : (vs l : List A) (n i : ℕ) → i + length vs ≤ n → take n (sets l i vs) ≡ sets (take n l) i vs
+  take-sets-in [] l n i h = refl
+  take-sets-in (v ∷ vs) l n i h =
+      take-sets-in vs (set l i v) n (suc i) (omega arith) ∙ ap (λ (k : List A). sets k (suc i) vs) (take-set-lt n l i v (omega arith))
+
+  pub drop-sets-in : (vs l : List A) (n i : ℕ) → drop n (sets l (n + i) vs) ≡ sets (drop n l) i vs
+  drop-sets-in [] l n i = refl
+  drop-sets-in (v ∷ vs) l n i =
+      ap (λ (k : ℕ). drop n (sets (set l (n + i) v) k vs)) (sym (add-suc n i))
+      ∙ drop-sets-in vs (set l (n + i) v) n (suc i)
+      ∙ ap (λ (k : List A). sets k (suc i) vs) (drop-set-add n l i v)
+
+  pub getD-sets-out : (vs l : List A) (i k : ℕ) (d : A) → (k < i) ⊎ (i + length vs ≤ k) → getD (sets l i vs) k d ≡ getD l k d
+  getD-sets-out [] l i k d h = refl
+  getD-sets-out (v ∷ vs) l i k d (inl h) =
+      getD-sets-out vs (set l i v) (suc i) k d (inl (omega arith)) ∙ getD-set-other l i k v d (omega arith)
+  getD-sets-out (v ∷ vs) l i k d (inr h) =
+      getD-sets-out vs (set l i v) (suc i) k d (inr (omega arith)) ∙ getD-set-other l i k v d (omega arith)
+
+  pub getD-sets-in : (vs l : List A) (i k : ℕ) (d : A) → k < length vs → i + k < length l → getD (sets l i vs) (i + k) d ≡ getD vs k d
+  getD-sets-in [] l i k d h b = absurd (omega arith)
+  getD-sets-in (v ∷ vs) l i zero d h b =
+      ap (λ (m : ℕ). getD (sets (set l i v) (suc i) vs) m d) (omega arith)
+      ∙ getD-sets-out vs (set l i v) (suc i) i d (inl (omega arith)) ∙ getD-set-same l i v d (omega arith)
+  getD-sets-in (v ∷ vs) l i (suc k) d h b =
+      ap (λ (m : ℕ). getD (sets (set l i v) (suc i) vs) m d) (add-suc i k ∙ sym (suc-add i k))
+      ∙ getD-sets-in vs (set l i v) (suc i) k d (omega arith) (simp length-set (omega arith))
+
+  -- a whole list written over one as long
+  pub sets-whole : (vs l : List A) → length vs ≡ length l → sets l 0 vs ≡ vs
+  sets-whole [] [] e = refl
+  sets-whole [] (y ∷ ys) e = absurd (omega arith)
+  sets-whole (v ∷ vs) [] e = absurd (omega arith)
+  sets-whole (v ∷ vs) (y ∷ ys) e = sets-cons vs ys v 0 ∙ ap (λ (r : List A). v ∷ r) (sets-whole vs ys (omega arith))
+    where
+      sets-cons : (vs ys : List A) (v : A) (i : ℕ) → sets (v ∷ ys) (suc i) vs ≡ v ∷ sets ys i vs
+      sets-cons [] ys v i = refl
+      sets-cons (w ∷ ws) ys v i = sets-cons ws (set ys i w) v (suc i)
+
+  -- one run after another
+  pub sets-then : (u v l : List A) (i j : ℕ) → i + length u ≡ j → sets (sets l i u) j v ≡ sets l i (u ++ v)
+  sets-then [] v l i j e = ap (λ (k : ℕ). sets l k v) (omega arith)
+  sets-then (x ∷ u) v l i j e = sets-then u v (set l i x) (suc i) j (omega arith)
+
+  -- a run past the end is not written
+  pub sets-out : (vs l : List A) (i : ℕ) → length l ≤ i → sets l i vs ≡ l
+  sets-out [] l i h = refl
+  sets-out (v ∷ vs) l i h = ap (λ (k : List A). sets k (suc i) vs) (set-out l i v h) ∙ sets-out vs l (suc i) (omega arith)

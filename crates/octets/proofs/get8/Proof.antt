@@ -1,0 +1,25 @@
+use denote.Ref.{now}
+use mathlib.Core.Path.{sym}
+use native.Mathlib.Omega.{arith}
+use lib.ListN.{List·getD-eq-default}
+use borrow.Author.Needs.{needs}
+use Rattle.octets.proofs.get8.Statement.{statement}
+use Rattle.octets.proofs.get8.Tie as tie
+use Rattle.octets.proofs.get8.Reads as reads
+use Rattle.octets.proofs.get8.Lts as lts
+use Rattle.octets.proofs.wide.Reads as wide-reads
+
+shared-slice-read-wide : tie.Need-shared-slice-read-wide
+shared-slice-read-wide c = search needs
+
+wide-requires : tie.Need-wide-requires
+wide-requires c κs = search needs
+
+returns : tie.Need-returns
+returns c = search needs
+
+returns-2 : tie.Need-returns-2
+returns-2 c = (sym (List·getD-eq-default (now (c .before .before .args .s)) 0 (c .if1 .left)), omega arith)
+
+pub get8-spec : {M : Type 1} → statement M
+get8-spec = tie.close (tie.spec shared-slice-read-wide wide-requires returns returns-2)

@@ -1,0 +1,265 @@
+-- What the public functions hand back says the answer, place and state of the rules; and the ways that their code takes lead to it.
+-- Assumes nothing.
+use Prim.Native.Nat.{ℕ, zero, suc, _+_, _-_, _<_, _≤_}
+use mathlib.Core.Path.{_≡_, refl, sym, _∙_, ap, ap₂, subst}
+use mathlib.Core.Bool.{Bool, true, false, _&&_, cond}
+use mathlib.Core.List.{List, [], _∷_}
+use native.Mathlib.Omega.{arith}
+use borrow.Author.Tests.{le-leb, lt-leb}
+use lib.Dec.{T, eqb, leb}
+use lib.IntN.{ℤ}
+use Rattle.line.specs.declared.Point.{Point}
+use Rattle.line.specs.declared.Decision.{Decision}
+use Rattle.line.specs.declared.Decision.the-variants.{State, Origin, NoSector}
+use Rattle.line.specs.Mode.{isMode, isRole, isState, width, face}
+use Rattle.line.specs.Point.{inRange}
+use Rattle.line.specs.Decide.{decide}
+use Rattle.line.specs.Code.{group}
+use Rattle.line.specs.Refusal.{need, orNext, accepted}
+use Rattle.line.proofs.RefusalLaws.{need-met, need-rest, next-rest}
+use Rattle.scrambler.specs.declared.Register.{Register}
+use Rattle.scrambler.specs.declared.Descrambled.{Descrambled}
+use Rattle.scrambler.specs.Bits.{bits}
+use Rattle.scrambler.specs.Register.{fresh, registerOk}
+use Rattle.scrambler.specs.Group.{descrambled}
+use Rattle.scrambler.proofs.GroupLaws.{group-read}
+use Rattle.receiver.specs.declared.Reference.{Reference}
+use Rattle.receiver.specs.declared.Reference.the-variants.{Nothing as none, State as some}
+use Rattle.receiver.specs.declared.Receiver.{Receiver}
+use Rattle.receiver.specs.declared.Outcome.{Outcome}
+use Rattle.receiver.specs.declared.Outcome.the-variants.{Refused, Referenced, Bits, Gap}
+use Rattle.receiver.specs.declared.Started.{Started}
+use Rattle.receiver.specs.declared.Started.the-variants.{Refused as NotStarted, Ready}
+use Rattle.receiver.specs.Receiver.{receiver, freshReceiver, Event, point, gap, isFresh, fieldsOk, freshRefusal, stateRefusal, inSector, hasRoom, eventRefusal, refusal, Answer, refused, decoded, lineBits, stateAnswer, pointAnswer, eventAnswer, answer, intervals, placeAfter, forgotten, stateLine, stateNext, pointNext, eventNext, next}
+use Rattle.receiver.specs.Outcome.{answerOf, stateOf, Told, groupOf, stateOutcome, gapOutcome, pointOutcome, eventOutcome, outcome, ifRoom, numberOf, madeOf, Made, started}
+
+-- WHAT AN OUTCOME SAYS
+
+module _ (s : Receiver) where
+  state-answered : (o : Reference) (y : ℕ) → answerOf (width (s .mode)) (stateOutcome s o y) ≡ stateAnswer s o y
+  unfolding stateOutcome stateAnswer groupOf descrambled
+  state-answered none y = refl
+  state-answered (some x) y =
+      ap (decoded (lineBits (s .mode) x y)) (group-read (s .mode) (s .role) (s .line) (group (s .mode) (face (s .mode) x) y))
+
+  point-answered : (d : Decision) → answerOf (width (s .mode)) (pointOutcome s d) ≡ pointAnswer s d
+  unfolding pointOutcome pointAnswer
+  point-answered (State y) = state-answered (s .reference) y
+  point-answered Origin = refl
+  point-answered NoSector = refl
+
+  event-answered : (e : Event) → answerOf (width (s .mode)) (eventOutcome s e) ≡ eventAnswer s e
+  unfolding eventOutcome eventAnswer
+  event-answered (point p) = point-answered (decide (s .mode) p)
+  event-answered (gap n) = refl
+
+  state-left : (o : Reference) (y : ℕ) → stateOf s (stateOutcome s o y) ≡ stateNext s o y
+  unfolding stateOutcome
+  state-left none y = refl
+  state-left (some x) y = refl
+
+  point-left : (d : Decision) → stateOf s (pointOutcome s d) ≡ pointNext s d
+  unfolding pointOutcome pointNext
+  point-left (State y) = state-left (s .reference) y
+  point-left Origin = refl
+  point-left NoSector = refl
+
+  event-left : (e : Event) → stateOf s (eventOutcome s e) ≡ eventNext s e
+  unfolding eventOutcome eventNext
+  event-left (point p) = point-left (decide (s .mode) p)
+  event-left (gap n) = refl
+
+  -- an accepted point is not in no sector
+  pub in-sector : (p : Point) → eventRefusal s (point p) ≡ 0 → T (inSector (decide (s .mode) p))
+  unfolding eventRefusal
+  in-sector p z = need-met (inSector (decide (s .mode) p)) 9 _ (need-rest (inRange p) 7 _ z)
+
+  point-placed : (d : Decision) → T (inSector d) → pointNext s d .place .0 ≡ s .place .0 + 1
+  unfolding pointNext stateNext forgotten
+  point-placed (State y) t = refl
+  point-placed Origin t = refl
+  point-placed NoSector t = absurd t
+
+  pub event-placed : (e : Event) → refusal s e ≡ 0 → eventNext s e .place .0 ≡ s .place .0 + intervals e
+  unfolding eventNext refusal forgotten
+  event-placed (point p) z = point-placed (decide (s .mode) p) (in-sector p (next-rest (stateRefusal s) _ z))
+  event-placed (gap n) z = refl
+
+  answered : (e : Event) (n : ℕ) → answerOf (width (s .mode)) (accepted n (eventOutcome s e) (Refused n)) ≡ accepted n (eventAnswer s e) (refused n)
+  answered e zero = event-answered e
+  answered e (suc n) = refl
+
+  left : (e : Event) (n : ℕ) → stateOf s (accepted n (eventOutcome s e) (Refused n)) ≡ accepted n (eventNext s e) s
+  left e zero = event-left e
+  left e (suc n) = refl
+
+  placed : (e : Event) (n : ℕ) → refusal s e ≡ n → accepted n (eventNext s e) s .place .0 ≡ accepted n (s .place .0 + intervals e) (s .place .0)
+  placed e zero z = event-placed e z
+  placed e (suc n) z = refl
+
+  -- the place of the state after an event is the place after it
+  pub next-placed : (e : Event) → next s e .place .0 ≡ placeAfter s e
+  unfolding next placeAfter
+  next-placed e = placed e (refusal s e) refl
+
+  pub told : (e : Event) → Told s e (outcome s e)
+  unfolding outcome answer next
+  told e =
+      let l : stateOf s (outcome s e) ≡ next s e = left e (refusal s e) in
+      record { answered = answered e (refusal s e); placed = ap (λ (t : Receiver). t .place .0) l ∙ next-placed e; left = l }
+
+  pub both : (e : Event) (r : Outcome) → r ≡ outcome s e → (r ≡ outcome s e) × Told s e r
+  both e r q = (q, subst (Told s e) (sym q) (told e))
+
+-- THE WAYS OF THE CODE
+
+module _ (m role : ℕ) (a : Bool) (p : a ≡ isMode m) where
+  pub fault-mode : a ≡ false → 1 ≡ freshRefusal m role
+  unfolding freshRefusal
+  fault-mode h = rw (← p, h)
+
+  module _ (h : a ≡ true) (b : Bool) (q : b ≡ isRole m role) where
+    pub fault-role : b ≡ false → 2 ≡ freshRefusal m role
+    unfolding freshRefusal
+    fault-role k = rw (← p, h, ← q, k)
+
+    pub fault-none : b ≡ true → 0 ≡ freshRefusal m role
+    unfolding freshRefusal
+    fault-none k = rw (← p, h, ← q, k)
+
+module _ (m : ℕ) (h : Register) (o : Reference) where
+  pub fields-none : o ≡ none → eqb (h .bits) 0 && eqb (h .held .0) 0 ≡ fieldsOk m o h
+  unfolding fieldsOk isFresh
+  fields-none is = rw is
+
+  pub fields-some : (x : ℕ) (a b : Bool) → o ≡ some x → a ≡ isState m x → b ≡ registerOk m h → a && b ≡ fieldsOk m o h
+  unfolding fieldsOk
+  fields-some x a b is p q = rw (is, p, q)
+
+-- a first refusal that is one, and one that is none
+or-some : (f n k : ℕ) → f ≡ n → (f ≡ 0 → ⊥) → f ≡ orNext n k
+or-some f zero k e h = absurd (h e)
+or-some f (suc n) k e h = e
+
+or-none : (f n k : ℕ) → f ≡ n → f ≡ 0 → k ≡ orNext n k
+or-none f n k e h = rw (← e, h)
+
+module _ (s : Receiver) (f : ℕ) (e : f ≡ freshRefusal (s .mode) (s .role)) where
+  pub fault-early : (f ≡ 0 → ⊥) → f ≡ stateRefusal s
+  unfolding stateRefusal
+  fault-early h = or-some f (freshRefusal (s .mode) (s .role)) _ e h
+
+  module _ (h : f ≡ 0) (a : Bool) (p : a ≡ fieldsOk (s .mode) (s .reference) (s .line)) where
+    pub fault-fields : a ≡ false → 4 ≡ stateRefusal s
+    unfolding stateRefusal
+    fault-fields k = rw (← e, h, ← p, k)
+
+    pub fault-nowhere : a ≡ true → 0 ≡ stateRefusal s
+    unfolding stateRefusal
+    fault-nowhere k = rw (← e, h, ← p, k)
+
+-- no room, and room
+module _ (s : Receiver) (n : ℕ) (r : Outcome) where
+  pub room-none : 4294967295 - s .place .0 < n → Refused 16 ≡ ifRoom s n r
+  unfolding ifRoom hasRoom
+  room-none h = rw (lt-leb (s .place .0 + n) 4294967295 (omega arith))
+
+  pub room-some : s .place .0 ≤ 4294967295 → n ≤ 4294967295 - s .place .0 → r ≡ ifRoom s n r
+  unfolding ifRoom hasRoom
+  room-some b h = rw (le-leb (s .place .0 + n) 4294967295 (omega arith))
+
+-- a gap's outcome from its parts
+pub lost-law : (s : Receiver) (n : ℕ) (h : Register) → s .place .0 ≤ 4294967295 → n ≤ 4294967295 - s .place .0 → h ≡ fresh
+    → Gap (record { 0 = n }) (receiver (s .mode) (s .role) none h (s .place .0 + n)) ≡ ifRoom s n (gapOutcome s n)
+unfolding forgotten
+lost-law s n h b k e =
+    ap (λ (t : Register). Gap (record { 0 = n }) (receiver (s .mode) (s .role) none t (s .place .0 + n))) e ∙ room-some s n (gapOutcome s n) b k
+
+module _ (s : Receiver) (o : Reference) (y : ℕ) (b : s .place .0 ≤ 4294967295) (k : 1 ≤ 4294967295 - s .place .0) where
+  pub reference-law : o ≡ none → Referenced (receiver (s .mode) (s .role) (some y) (s .line) (s .place .0 + 1)) ≡ ifRoom s 1 (stateOutcome s o y)
+  unfolding stateOutcome stateNext stateLine
+  reference-law is = rw is (room-some s 1 _ b k)
+
+  pub bits-law : (x g : ℕ) (d : Descrambled) → o ≡ some x → g ≡ group (s .mode) (face (s .mode) x) y → d ≡ descrambled (s .mode) (s .role) (s .line) g
+      → Bits (record { line = g; plain = d .plain; unsettled = d .unsettled }) (receiver (s .mode) (s .role) (some y) (d .next) (s .place .0 + 1))
+      ≡ ifRoom s 1 (stateOutcome s o y)
+  unfolding stateOutcome stateNext stateLine groupOf descrambled
+  bits-law x g d is e q = rw (q, e, is) (room-some s 1 _ b k)
+
+-- a refused event, and an accepted one
+refused-by : (r : Outcome) (f n : ℕ) → f ≡ n → (f ≡ 0 → ⊥) → Refused f ≡ accepted n r (Refused n)
+refused-by r f zero e h = absurd (h e)
+refused-by r f (suc n) e h = ap Refused e
+
+last-room : (b : Bool) (r : Outcome) → cond b r (Refused 16) ≡ accepted (need b 16 0) r (Refused (need b 16 0))
+last-room true r = refl
+last-room false r = refl
+
+module _ (s : Receiver) (f : ℕ) (a : f ≡ stateRefusal s) where
+  pub outcome-fault : (e : Event) → (f ≡ 0 → ⊥) → Refused f ≡ outcome s e
+  unfolding outcome refusal
+  outcome-fault e h = refused-by (eventOutcome s e) f (orNext (stateRefusal s) (eventRefusal s e)) (or-some f (stateRefusal s) _ a h) h
+
+  module _ (z : f ≡ 0) where
+    pub gap-none : (n : ℕ) → n < 1 → Refused 9 ≡ outcome s (gap n)
+    unfolding outcome refusal eventRefusal
+    gap-none n h = rw (← a, z, lt-leb 1 n h)
+
+    pub gap-some : (n : ℕ) (r : Outcome) → 1 ≤ n → r ≡ ifRoom s n (gapOutcome s n) → r ≡ outcome s (gap n)
+    unfolding outcome refusal eventRefusal eventOutcome ifRoom
+    gap-some n r h q = rw (← a, z, le-leb 1 n h) (q ∙ last-room (hasRoom s n) (gapOutcome s n))
+
+    module _ (p : Point) (i : Bool) (b : i ≡ inRange p) where
+      pub point-far : i ≡ false → Refused 8 ≡ outcome s (point p)
+      unfolding outcome refusal eventRefusal
+      point-far h = rw (← a, z, ← b, h)
+
+      module _ (h : i ≡ true) (d : Decision) (q : d ≡ decide (s .mode) p) where
+        point-in : T (inSector d) → ifRoom s 1 (pointOutcome s d) ≡ outcome s (point p)
+        unfolding outcome refusal eventRefusal eventOutcome ifRoom
+        point-in t =
+            rw (← a, z, ← b, h, ← q) (sectors d t)
+          where
+            sectors : (d : Decision) → T (inSector d)
+                → cond (hasRoom s 1) (pointOutcome s d) (Refused 16)
+                ≡ accepted (need (inSector d) 10 (need (hasRoom s 1) 16 0)) (pointOutcome s d) (Refused (need (inSector d) 10 (need (hasRoom s 1) 16 0)))
+            sectors (State y) t = last-room (hasRoom s 1) (pointOutcome s (State y))
+            sectors Origin t = last-room (hasRoom s 1) (pointOutcome s Origin)
+            sectors NoSector t = absurd t
+
+        pub point-state : (y : ℕ) (r : Outcome) → d ≡ State y → r ≡ ifRoom s 1 (stateOutcome s (s .reference) y) → r ≡ outcome s (point p)
+        unfolding pointOutcome
+        point-state y r is e =
+            e ∙ ap (λ (t : Decision). ifRoom s 1 (pointOutcome s t)) (sym is) ∙ point-in (subst (λ (t : Decision). T (inSector t)) (sym is) tt)
+
+        pub point-origin : (r : Outcome) → d ≡ Origin → r ≡ ifRoom s 1 (gapOutcome s 1) → r ≡ outcome s (point p)
+        unfolding pointOutcome
+        point-origin r is e =
+            e ∙ ap (λ (t : Decision). ifRoom s 1 (pointOutcome s t)) (sym is) ∙ point-in (subst (λ (t : Decision). T (inSector t)) (sym is) tt)
+
+        pub point-nowhere : d ≡ NoSector → Refused 10 ≡ outcome s (point p)
+        unfolding outcome refusal eventRefusal
+        point-nowhere is = rw (← a, z, ← b, h, ← q, is)
+
+-- A FRESH RECEIVER
+
+made : (m role n : ℕ) → n ≡ freshRefusal m role → Made m role (accepted n (Ready (freshReceiver m role)) (NotStarted n))
+made m role zero e = record { number = e; made = ap (λ (k : ℕ). accepted k (freshReceiver m role ∷ []) []) e }
+made m role (suc n) e = record { number = e; made = ap (λ (k : ℕ). accepted k (freshReceiver m role ∷ []) []) e }
+
+module _ (m role f : ℕ) (e : f ≡ freshRefusal m role) where
+  both-started : (r : Started) → r ≡ started m role → (r ≡ started m role) × Made m role r
+  unfolding started
+  both-started r q = (q, subst (Made m role) (sym q) (made m role (freshRefusal m role) refl))
+
+  pub started-fault : (f ≡ 0 → ⊥) → (NotStarted f ≡ started m role) × Made m role (NotStarted f)
+  unfolding started
+  started-fault h = both-started (NotStarted f) (go (freshRefusal m role) e)
+    where
+      go : (n : ℕ) → f ≡ n → NotStarted f ≡ accepted n (Ready (freshReceiver m role)) (NotStarted n)
+      go zero q = absurd (h q)
+      go (suc n) q = ap NotStarted q
+
+  pub started-ready : (h : Register) → f ≡ 0 → h ≡ fresh → (Ready (receiver m role none h 0) ≡ started m role) × Made m role (Ready (receiver m role none h 0))
+  unfolding started freshReceiver
+  started-ready h z q = both-started (Ready (receiver m role none h 0)) (rw (← e, z, q))

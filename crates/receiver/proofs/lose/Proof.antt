@@ -1,0 +1,26 @@
+use native.Mathlib.Omega.{arith}
+use Rattle.receiver.proofs.OutcomeLaws.{room-none, lost-law}
+use borrow.Author.Needs.{needs}
+use Rattle.receiver.proofs.lose.Statement.{statement}
+use Rattle.receiver.proofs.lose.Tie as tie
+use Rattle.receiver.proofs.lose.Reads as reads
+use Rattle.receiver.proofs.lose.Lts as lts
+use Rattle.scrambler.proofs.fresh_register.Reads as fresh-register-reads
+
+sub-if1 : tie.Need-sub-if1
+sub-if1 c = search needs
+
+returns : tie.Need-returns
+returns c = search room-none
+
+fresh-register-requires : tie.Need-fresh-register-requires
+fresh-register-requires c κs = search needs
+
+add-t4 : tie.Need-add-t4
+add-t4 c = search needs
+
+returns-2 : tie.Need-returns-2
+returns-2 c = lost-law _ _ _ (search needs) (c .before .if1 .left) (c .fresh-register .ensures)
+
+pub lose-spec : {M : Type 1} → statement M
+lose-spec = tie.close (tie.spec sub-if1 returns fresh-register-requires add-t4 returns-2)

@@ -1,0 +1,70 @@
+use Rattle.receiver.proofs.OutcomeLaws.{both, outcome-fault, point-far, point-state, point-origin, point-nowhere}
+use Rattle.line.specs.Point.{at}
+use mir.Facts.{toZ-ofZ}
+use borrow.Author.Needs.{needs}
+use Rattle.receiver.proofs.receive_point.Statement.{statement}
+use Rattle.receiver.proofs.receive_point.Tie as tie
+use Rattle.receiver.proofs.receive_point.Reads as reads
+use Rattle.receiver.proofs.receive_point.Lts as lts
+use Rattle.line.proofs.decide.Reads as decide-reads
+use Rattle.line.proofs.in_range.Reads as in-range-reads
+use Rattle.receiver.proofs.lose.Reads as lose-reads
+use Rattle.receiver.proofs.state_fault.Reads as state-fault-reads
+use Rattle.receiver.proofs.take_state.Reads as take-state-reads
+
+state-fault-requires : tie.Need-state-fault-requires
+state-fault-requires c κs = search needs
+
+returns : tie.Need-returns
+returns c = both _ _ _ (search outcome-fault)
+
+in-range-requires : tie.Need-in-range-requires
+in-range-requires c κs = search needs
+
+decide-requires : tie.Need-decide-requires
+decide-requires c κs = search needs
+
+enum-known-decision : tie.Need-enum-known-decision
+enum-known-decision c = search needs
+
+take-state-requires : tie.Need-take-state-requires
+take-state-requires c κs = search needs
+
+enum-told : tie.Need-enum-told
+enum-told c = search needs
+
+lose-requires : tie.Need-lose-requires
+lose-requires c κs = search needs
+
+enum-told-2 : tie.Need-enum-told-2
+enum-told-2 c = search needs
+
+returns-2 : tie.Need-returns-2
+returns-2 c = let a = c .before .before .before .before .before .before .before .before .before .args in let f = c .before .before .before .before .before .before .before .before .before .fits in both _ _ _ (point-state (a .s) _ (c .before .before .before .before .before .before .before .before .state-fault .ensures) (c .before .before .before .before .before .before .before .if1 .left) (at (a .re) (a .im)) _ (rw (toZ-ofZ (f .re), toZ-ofZ (f .im)) at (c .before .before .before .before .before .before .in-range .ensures)) (c .before .before .before .before .before .if2 .taken) _ (rw (toZ-ofZ (f .re), toZ-ofZ (f .im)) at (c .before .before .before .before .decide .ensures)) _ _ (search needs) (c .take-state .ensures))
+
+returns-3 : tie.Need-returns-3
+returns-3 c = let a = c .before .before .before .before .before .before .before .before .args in let f = c .before .before .before .before .before .before .before .before .fits in both _ _ _ (point-origin (a .s) _ (c .before .before .before .before .before .before .before .state-fault .ensures) (c .before .before .before .before .before .before .if1 .left) (at (a .re) (a .im)) _ (rw (toZ-ofZ (f .re), toZ-ofZ (f .im)) at (c .before .before .before .before .before .in-range .ensures)) (c .before .before .before .before .if2 .taken) _ (rw (toZ-ofZ (f .re), toZ-ofZ (f .im)) at (c .before .before .before .decide .ensures)) _ (search needs) (c .lose .ensures))
+
+returns-4 : tie.Need-returns-4
+returns-4 c = let a = c .before .before .before .before .before .before .before .args in let f = c .before .before .before .before .before .before .before .fits in both _ _ _ (point-nowhere (a .s) _ (c .before .before .before .before .before .before .state-fault .ensures) (c .before .before .before .before .before .if1 .left) (at (a .re) (a .im)) _ (rw (toZ-ofZ (f .re), toZ-ofZ (f .im)) at (c .before .before .before .before .in-range .ensures)) (c .before .before .before .if2 .taken) _ (rw (toZ-ofZ (f .re), toZ-ofZ (f .im)) at (c .before .before .decide .ensures)) (search needs))
+
+returns-5 : tie.Need-returns-5
+returns-5 c = let a = c .before .before .before .before .args in let f = c .before .before .before .before .fits in both _ _ _ (point-far (a .s) _ (c .before .before .before .state-fault .ensures) (c .before .before .if1 .left) (at (a .re) (a .im)) _ (rw (toZ-ofZ (f .re), toZ-ofZ (f .im)) at (c .before .in-range .ensures)) (c .if2 .left))
+
+pub receive-point-spec : {M : Type 1} → statement M
+receive-point-spec =
+    tie.close
+    (tie.spec
+    state-fault-requires
+    returns
+    in-range-requires
+    decide-requires
+    enum-known-decision
+    take-state-requires
+    enum-told
+    lose-requires
+    enum-told-2
+    returns-2
+    returns-3
+    returns-4
+    returns-5)

@@ -1,0 +1,27 @@
+use Rattle.receiver.proofs.OutcomeLaws.{fault-early, fault-fields, fault-nowhere}
+use borrow.Author.Needs.{needs}
+use Rattle.receiver.proofs.state_fault.Statement.{statement}
+use Rattle.receiver.proofs.state_fault.Tie as tie
+use Rattle.receiver.proofs.state_fault.Reads as reads
+use Rattle.receiver.proofs.state_fault.Lts as lts
+use Rattle.receiver.proofs.fields_ok.Reads as fields-ok-reads
+use Rattle.receiver.proofs.fresh_fault.Reads as fresh-fault-reads
+
+fresh-fault-requires : tie.Need-fresh-fault-requires
+fresh-fault-requires c κs = search needs
+
+returns : tie.Need-returns
+returns c = search fault-early
+
+fields-ok-requires : tie.Need-fields-ok-requires
+fields-ok-requires c κs = search needs
+
+returns-2 : tie.Need-returns-2
+returns-2 c = search fault-nowhere
+
+returns-3 : tie.Need-returns-3
+returns-3 c = search fault-fields
+
+pub state-fault-spec : {M : Type 1} → statement M
+state-fault-spec =
+    tie.close (tie.spec fresh-fault-requires returns fields-ok-requires returns-2 returns-3)

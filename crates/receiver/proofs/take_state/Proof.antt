@@ -1,0 +1,53 @@
+use Rattle.receiver.proofs.OutcomeLaws.{room-none, reference-law, bits-law}
+use borrow.Author.Needs.{needs}
+use Rattle.receiver.proofs.take_state.Statement.{statement}
+use Rattle.receiver.proofs.take_state.Tie as tie
+use Rattle.receiver.proofs.take_state.Reads as reads
+use Rattle.receiver.proofs.take_state.Lts as lts
+use Rattle.line.proofs.group_of.Reads as group-of-reads
+use Rattle.scrambler.proofs.descramble_group.Reads as descramble-group-reads
+
+sub-if1 : tie.Need-sub-if1
+sub-if1 c = search needs
+
+returns : tie.Need-returns
+returns c = search room-none
+
+enum-told : tie.Need-enum-told
+enum-told c = search needs
+
+add-t15 : tie.Need-add-t15
+add-t15 c = search needs
+
+enum-known-reference : tie.Need-enum-known-reference
+enum-known-reference c = search needs
+
+group-of-requires : tie.Need-group-of-requires
+group-of-requires c κs = search needs
+
+descramble-group-requires : tie.Need-descramble-group-requires
+descramble-group-requires c κs = search needs
+
+add-t20 : tie.Need-add-t20
+add-t20 c = search needs
+
+returns-2 : tie.Need-returns-2
+returns-2 c = reference-law _ _ _ (search needs) (c .before .before .before .if1 .left) (search needs)
+
+returns-3 : tie.Need-returns-3
+returns-3 c = bits-law _ _ _ (search needs) (c .before .before .before .before .before .before .before .before .if1 .left) _ _ _ (search needs) (c .before .before .before .group-of .ensures) (c .before .before .descramble-group .ensures)
+
+pub take-state-spec : {M : Type 1} → statement M
+take-state-spec =
+    tie.close
+    (tie.spec
+    sub-if1
+    returns
+    enum-told
+    add-t15
+    enum-known-reference
+    group-of-requires
+    descramble-group-requires
+    add-t20
+    returns-2
+    returns-3)

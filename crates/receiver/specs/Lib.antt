@@ -1,0 +1,4 @@
+pub mod Receiver
+pub mod Outcome
+pub mod Calls
+pub mod Turn

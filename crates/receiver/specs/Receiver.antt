@@ -1,0 +1,135 @@
+-- Document 01, "Receiver" and "Refusals": a receiver's events, what it refuses, and the answer, place and state after an event.
+use Prim.Native.Nat.{ℕ, zero, suc, _+_}
+use mathlib.Core.Bool.{Bool, true, false, _&&_}
+use mathlib.Core.List.{List, [], _∷_}
+use lib.Dec.{eqb, leb}
+use Rattle.line.specs.declared.Point.{Point}
+use Rattle.line.specs.declared.Decision.{Decision}
+use Rattle.line.specs.declared.Decision.the-variants.{State, Origin, NoSector}
+use Rattle.line.specs.Mode.{isMode, isRole, isState, width, face}
+use Rattle.line.specs.Point.{inRange}
+use Rattle.line.specs.Decide.{decide}
+use Rattle.line.specs.Code.{group}
+use Rattle.line.specs.Refusal.{need, orNext, accepted}
+use Rattle.scrambler.specs.declared.Register.{Register}
+use Rattle.scrambler.specs.Bits.{bits}
+use Rattle.scrambler.specs.Register.{fresh, pushes, registerOk}
+use Rattle.scrambler.specs.Scramble.{Datum, descramble}
+use Rattle.receiver.specs.declared.Intervals.{Intervals}
+use Rattle.receiver.specs.declared.Reference.{Reference}
+use Rattle.receiver.specs.declared.Reference.the-variants.{Nothing as none, State as some}
+use Rattle.receiver.specs.declared.Receiver.{Receiver}
+
+abbrev pub receiver : ℕ → ℕ → Reference → Register → ℕ → Receiver
+receiver m role reference line place =
+    record { mode = m; role = role; reference = reference; line = line; place = record { 0 = place } }
+
+-- "a fresh one has no reference, no line bits, place 0"
+unfoldable pub freshReceiver : ℕ → ℕ → Receiver
+freshReceiver m role = receiver m role none fresh 0
+
+pub data Event : Type 0 where
+  point : Point → Event
+  gap : ℕ → Event
+
+-- THE REFUSALS
+
+unfoldable pub isFresh : Register → Bool
+isFresh h = eqb (h .bits) 0 && eqb (h .held .0) 0
+
+-- number 4: the reference a state of the mode, at most R line bits, and none without a reference
+unfoldable pub fieldsOk : ℕ → Reference → Register → Bool
+fieldsOk m none h = isFresh h
+fieldsOk m (some x) h = isState m x && registerOk m h
+
+-- of making a receiver, and of a handed-in one
+unfoldable pub freshRefusal : ℕ → ℕ → ℕ
+freshRefusal m role = need (isMode m) 1 (need (isRole m role) 2 0)
+
+unfoldable pub stateRefusal : Receiver → ℕ
+stateRefusal s = orNext (freshRefusal (s .mode) (s .role)) (need (fieldsOk (s .mode) (s .reference) (s .line)) 4 0)
+
+-- number 10: off the origin, and in none of the eight sectors
+abbrev pub inSector : Decision → Bool
+inSector (State y) = true
+inSector Origin = true
+inSector NoSector = false
+
+-- number 16: the place n intervals on
+unfoldable pub hasRoom : Receiver → ℕ → Bool
+hasRoom s n = leb (s .place .0 + n) 4294967295
+
+unfoldable pub eventRefusal : Receiver → Event → ℕ
+eventRefusal s (point p) = need (inRange p) 8 (need (inSector (decide (s .mode) p)) 10 (need (hasRoom s 1) 16 0))
+eventRefusal s (gap n) = need (leb 1 n) 9 (need (hasRoom s n) 16 0)
+
+unfoldable pub refusal : Receiver → Event → ℕ
+refusal s e = orNext (stateRefusal s) (eventRefusal s e)
+
+-- THE ANSWER
+
+pub data Answer : Type 0 where
+  refused : ℕ → Answer
+  reference : Answer
+  decoded : List ℕ → List Datum → Answer
+  lost : ℕ → Answer
+
+-- the w line bits of the state y after the reference x
+abbrev pub lineBits : ℕ → ℕ → ℕ → List ℕ
+lineBits m x y = bits (width m) (group m (face m x) y)
+
+-- a point decided as y: without a reference that alone, otherwise its line bits and their data bits with the marks
+unfoldable pub stateAnswer : Receiver → Reference → ℕ → Answer
+stateAnswer s none y = reference
+stateAnswer s (some x) y = decoded (lineBits (s .mode) x y) (descramble (s .mode) (s .role) (s .line) (lineBits (s .mode) x y))
+
+-- the origin is a gap of one interval
+unfoldable pub pointAnswer : Receiver → Decision → Answer
+pointAnswer s (State y) = stateAnswer s (s .reference) y
+pointAnswer s Origin = lost 1
+pointAnswer s NoSector = refused 10
+
+unfoldable pub eventAnswer : Receiver → Event → Answer
+eventAnswer s (point p) = pointAnswer s (decide (s .mode) p)
+eventAnswer s (gap n) = lost n
+
+-- "a refusal gives back its number alone"
+unfoldable pub answer : Receiver → Event → Answer
+answer s e = accepted (refusal s e) (eventAnswer s e) (refused (refusal s e))
+
+-- THE PLACE, in unit intervals
+
+abbrev pub intervals : Event → ℕ
+intervals (point p) = 1
+intervals (gap n) = n
+
+unfoldable pub placeAfter : Receiver → Event → ℕ
+placeAfter s e = accepted (refusal s e) (s .place .0 + intervals e) (s .place .0)
+
+-- THE STATE
+
+-- a gap of n intervals: reference and line bits are forgotten
+unfoldable pub forgotten : Receiver → ℕ → Receiver
+forgotten s n = receiver (s .mode) (s .role) none fresh (s .place .0 + n)
+
+-- the line bits held after the state y
+unfoldable pub stateLine : Receiver → Reference → ℕ → Register
+stateLine s none y = s .line
+stateLine s (some x) y = pushes (s .mode) (s .line) (lineBits (s .mode) x y)
+
+-- a point decided as y becomes the reference
+unfoldable pub stateNext : Receiver → Reference → ℕ → Receiver
+stateNext s o y = receiver (s .mode) (s .role) (some y) (stateLine s o y) (s .place .0 + 1)
+
+unfoldable pub pointNext : Receiver → Decision → Receiver
+pointNext s (State y) = stateNext s (s .reference) y
+pointNext s Origin = forgotten s 1
+pointNext s NoSector = s
+
+unfoldable pub eventNext : Receiver → Event → Receiver
+eventNext s (point p) = pointNext s (decide (s .mode) p)
+eventNext s (gap n) = forgotten s n
+
+-- a refusal leaves the state
+unfoldable pub next : Receiver → Event → Receiver
+next s e = accepted (refusal s e) (eventNext s e) s

@@ -1,0 +1,202 @@
+// The receiver: its state, its answers, and the points and gaps that it takes. Document 01, "Receiver" and "Refusals".
+ghost use mathlib.Core.Path.{_≡_};
+ghost use Prim.Native.Nat.{ℕ};
+ghost use Rattle.line.specs.Point.{at};
+ghost use Rattle.receiver.specs.Receiver.{Event, point, gap, fieldsOk, freshRefusal, stateRefusal};
+ghost use Rattle.receiver.specs.Outcome.{Told, stateOutcome, pointOutcome, gapOutcome, outcome, ifRoom, Made, started};
+use scrambler::BitCount;
+use scrambler::Register;
+
+// A count of unit intervals, never to be taken for one of bits.
+pub struct Intervals(pub u32);
+
+// The state that the next point is read against.
+pub enum Reference {
+    Nothing,
+    State(u8),
+}
+
+// The line bits since the last gap and the place, in unit intervals.
+pub struct Receiver {
+    pub mode: u8,
+    pub role: u8,
+    pub reference: Reference,
+    pub line: Register,
+    pub place: Intervals,
+}
+
+// A point's w line bits and data bits, each a number with the first in time highest. The first `unsettled` data bits are
+// unsettled, and 0 in `plain`.
+pub struct Group {
+    pub line: u8,
+    pub plain: u8,
+    pub unsettled: BitCount,
+}
+
+// What a call gives. A refusal gives its number alone; the other cases hand back the next state.
+pub enum Outcome {
+    Refused(u8),
+    Referenced(Receiver),
+    Bits(Group, Receiver),
+    Gap(Intervals, Receiver),
+}
+
+pub enum Started {
+    Refused(u8),
+    Ready(Receiver),
+}
+
+// The number of what is wrong with a mode and a role, 0 for nothing.
+fn fresh_fault(mode: u8, role: u8) -> u8
+    ensures { λ r. ⌜ r ≡ freshRefusal mode role ⌝ }
+{
+    if line::mode_ok(mode) {
+        if line::role_ok(mode, role) { 0 } else { 2 }
+    } else {
+        1
+    }
+}
+
+// A receiver that has taken nothing.
+pub fn fresh(mode: u8, role: u8) -> Started
+    ensures { λ r. ⌜ r ≡ started mode role ⌝ }
+    ensures { λ r. ⌜ Made mode role r ⌝ }
+{
+    let fault = fresh_fault(mode, role);
+    if fault != 0 {
+        return Started::Refused(fault);
+    }
+    Started::Ready(Receiver {
+        mode,
+        role,
+        reference: Reference::Nothing,
+        line: scrambler::fresh_register(),
+        place: Intervals(0),
+    })
+}
+
+// What number 4 asks of a state.
+fn fields_ok(mode: u8, reference: Reference, h: Register) -> bool
+    ensures { λ r. ⌜ r ≡ fieldsOk mode reference h ⌝ }
+{
+    let bits = h.bits;
+    let held = h.held.0;
+    match reference {
+        Reference::Nothing => (bits == 0) & (held == 0),
+        Reference::State(x) => line::state_ok(mode, x) & scrambler::register_ok(mode, h),
+    }
+}
+
+// The number of what is wrong with a handed-in state, 0 for nothing.
+fn state_fault(s: Receiver) -> u8
+    ensures { λ r. ⌜ r ≡ stateRefusal s ⌝ }
+{
+    let fault = fresh_fault(s.mode, s.role);
+    if fault != 0 {
+        return fault;
+    }
+    let reference = s.reference;
+    let h = s.line;
+    if fields_ok(s.mode, reference, h) {
+        0
+    } else {
+        4
+    }
+}
+
+// A gap of n intervals.
+fn lose(s: Receiver, n: u32) -> Outcome
+    ensures { λ r. ⌜ r ≡ ifRoom s n (gapOutcome s n) ⌝ }
+{
+    let place = s.place.0;
+    if 4294967295 - place < n {
+        return Outcome::Refused(16);
+    }
+    Outcome::Gap(
+        Intervals(n),
+        Receiver {
+            mode: s.mode,
+            role: s.role,
+            reference: Reference::Nothing,
+            line: scrambler::fresh_register(),
+            place: Intervals(place + n),
+        },
+    )
+}
+
+// A point decided as the state y.
+fn take_state(s: Receiver, y: u8) -> Outcome
+    ensures { λ r. ⌜ r ≡ ifRoom s 1 (stateOutcome s (s .reference) y) ⌝ }
+{
+    let place = s.place.0;
+    if 4294967295 - place < 1 {
+        return Outcome::Refused(16);
+    }
+    let reference = s.reference;
+    let h = s.line;
+    match reference {
+        Reference::Nothing => Outcome::Referenced(Receiver {
+            mode: s.mode,
+            role: s.role,
+            reference: Reference::State(y),
+            line: h,
+            place: Intervals(place + 1),
+        }),
+        Reference::State(x) => {
+            let line = line::group_of(s.mode, x, y);
+            let d = scrambler::descramble_group(s.mode, s.role, h, line);
+            let unsettled = d.unsettled;
+            let after = d.next;
+            Outcome::Bits(
+                Group {
+                    line,
+                    plain: d.plain,
+                    unsettled,
+                },
+                Receiver {
+                    mode: s.mode,
+                    role: s.role,
+                    reference: Reference::State(y),
+                    line: after,
+                    place: Intervals(place + 1),
+                },
+            )
+        }
+    }
+}
+
+// A point, for any state and any two coordinates.
+pub fn receive_point(s: Receiver, re: i16, im: i16) -> Outcome
+    ensures { λ r. ⌜ r ≡ outcome s (point (at re im)) ⌝ }
+    ensures { λ r. ⌜ Told s (point (at re im)) r ⌝ }
+{
+    let fault = state_fault(s);
+    if fault != 0 {
+        return Outcome::Refused(fault);
+    }
+    if line::in_range(re, im) {
+        let decision = line::decide(s.mode, re, im);
+        match decision {
+            line::Decision::State(y) => take_state(s, y),
+            line::Decision::Origin => lose(s, 1),
+            line::Decision::NoSector => Outcome::Refused(10),
+        }
+    } else {
+        Outcome::Refused(8)
+    }
+}
+
+// A gap of n intervals, for any state and any n.
+pub fn receive_gap(s: Receiver, n: u32) -> Outcome
+    ensures { λ r. ⌜ r ≡ outcome s (gap n) ⌝ }
+    ensures { λ r. ⌜ Told s (gap n) r ⌝ }
+{
+    let fault = state_fault(s);
+    if fault != 0 {
+        return Outcome::Refused(fault);
+    }
+    if n < 1 {
+        return Outcome::Refused(9);
+    }
+    lose(s, n)
+}

@@ -1,0 +1,6 @@
+pub mod Chains
+pub mod Records
+pub mod Sounds
+pub mod PointRuns
+pub mod Going
+pub mod Views

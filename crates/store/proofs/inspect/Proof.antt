@@ -1,0 +1,25 @@
+use Rattle.store.proofs.Views.{viewed-size}
+use native.Mathlib.Omega.{arith}
+use mathlib.Core.Path.{_≡_, refl, sym, ap, _∙_}
+use borrow.Author.Needs.{needs}
+use Rattle.store.proofs.inspect.Statement.{statement}
+use Rattle.store.proofs.inspect.Tie as tie
+use Rattle.store.proofs.inspect.Reads as reads
+use Rattle.store.proofs.inspect.Lts as lts
+use Rattle.store.proofs.inspect_sized.Reads as inspect-sized-reads
+use Rattle.store.proofs.size_ok.Reads as size-ok-reads
+
+size-ok-requires : tie.Need-size-ok-requires
+size-ok-requires c κs = search needs
+
+inspect-sized-requires : tie.Need-inspect-sized-requires
+inspect-sized-requires c κs = sym (c .before .size-ok .ensures) ∙ c .if1 .taken
+
+returns : tie.Need-returns
+returns c = search needs
+
+returns-2 : tie.Need-returns-2
+returns-2 c = viewed-size _ _ (sym (c .before .size-ok .ensures) ∙ c .if1 .left) refl (omega arith)
+
+pub inspect-spec : {M : Type 1} → statement M
+inspect-spec = tie.close (tie.spec size-ok-requires inspect-sized-requires returns returns-2)

@@ -1,0 +1,61 @@
+use Rattle.store.proofs.Views.{viewed-sized}
+use Rattle.store.proofs.Sounds.{size-sized}
+use Rattle.store.specs.Store.{headOk, need}
+use native.Mathlib.Omega.{arith}
+use denote.Ref.{now}
+use mathlib.Core.Path.{_≡_, refl, sym, ap, _∙_}
+use borrow.Author.Needs.{needs}
+use Rattle.store.proofs.inspect_sized.Statement.{statement}
+use Rattle.store.proofs.inspect_sized.Tie as tie
+use Rattle.store.proofs.inspect_sized.Reads as reads
+use Rattle.store.proofs.inspect_sized.Lts as lts
+use Rattle.octets.proofs.get32.Reads as get32-reads
+use Rattle.store.proofs.follow.Reads as follow-reads
+use Rattle.store.proofs.head_ok.Reads as head-ok-reads
+use Rattle.store.proofs.need.Reads as need-reads
+use Rattle.store.proofs.record_at.Reads as record-at-reads
+
+follow-requires : tie.Need-follow-requires
+follow-requires c κs = size-sized (now (c .before .args .s)) (c .before .pre)
+
+get32-requires : tie.Need-get32-requires
+get32-requires c κs = search needs
+
+record-at-requires : tie.Need-record-at-requires
+record-at-requires c κs = let z = size-sized (now (c .before .before .before .args .s)) (c .before .before .before .pre) in omega (arith, z .whole, z .least)
+
+head-ok-requires : tie.Need-head-ok-requires
+head-ok-requires c κs = search needs
+
+need-requires : tie.Need-need-requires
+need-requires c κs = search needs
+
+need-requires-2 : tie.Need-need-requires-2
+need-requires-2 c κs = search needs
+
+need-requires-3 : tie.Need-need-requires-3
+need-requires-3 c κs = search needs
+
+need-requires-4 : tie.Need-need-requires-4
+need-requires-4 c κs = search needs
+
+returns : tie.Need-returns
+returns c = let f = c .before .before .before .before .before .before .before .before .follow in
+    let g = c .before .before .before .before .before .before .before .get32 in
+    let h = c .before .before .before .before .before .head-ok in
+    viewed-sized (now (c .before .before .before .before .before .before .before .before .before .before .args .s)) (f .result) (h .result) (g .result) (c .need4 .result) (c .before .before .before .before .before .before .before .before .before .before .pre) (f .ensures)
+    (h .ensures ∙ ap headOk (c .before .before .before .before .before .before .record-at .ensures .0)) (g .ensures .0) (g .ensures .1) (cc)
+
+pub inspect-sized-spec : {M : Type 1} → statement M
+inspect-sized-spec =
+    tie.close
+    (tie.spec
+    follow-requires
+    get32-requires
+    record-at-requires
+    head-ok-requires
+    need-requires
+    need-requires-2
+    need-requires-3
+    need-requires-4
+    returns)

@@ -1,0 +1,4 @@
+pub mod Chain
+pub mod Layout
+pub mod Store
+pub mod Walk

@@ -1,0 +1,251 @@
+// The records of a track store, their chain, and numbers 11 to 15. Document 01, "Track store".
+use line::in_range;
+use line::mode_ok;
+use line::role_ok;
+use octets::get_i16;
+use octets::get8;
+use octets::get16;
+use octets::get32;
+use octets::zero_from;
+ghost use mathlib.Core.Path.{_≡_};
+ghost use mathlib.Core.Bool.{true, false, _&&_};
+ghost use Prim.Native.Nat.{_+_, _*_, _≤_, _<_, max};
+ghost use lib.ListN.{length, drop};
+ghost use Rattle.line.specs.Point.{inRange};
+ghost use Rattle.octets.specs.Number.{i16};
+ghost use Rattle.store.specs.Layout.{rec, linkIn, next, pointsOk, recordOk, spanOf};
+ghost use Rattle.store.specs.Store.{need, orElse, sizeOk, hasMark, headOk};
+ghost use Rattle.store.specs.Walk.{Sized, Passed, Walked, Viewed};
+
+// Where record 0 holds the chain's first index and the total.
+const FIRST_AT: usize = 6;
+
+pub const TOTAL_AT: usize = 8;
+
+// ---- records
+
+// Whether a point at byte `at` lies in range.
+fn point_ok(r: &[u8], at: usize) -> bool
+    requires { ⌜ at < 256 ⌝ }
+    ensures { λ b. ⌜ b ≡ inRange (Rattle.line.specs.Point.at (i16 (now (r .entry)) at) (i16 (now (r .entry)) (at + 2))) ⌝ }
+{
+    in_range(get_i16(r, at), get_i16(r, at + 2))
+}
+
+// Whether the bytes from 4 on are `n` points in range, and zeros after them.
+fn points_ok(r: &[u8], n: usize) -> bool
+    requires { ⌜ n ≤ 7 ⌝ }
+    ensures { λ b. ⌜ b ≡ pointsOk (drop 4 (now (r .entry))) n ⌝ }
+{
+    let mut k = 0;
+    while k < n {
+        let at = 4 + 4 * k;
+        if !point_ok(r, at) {
+            return false;
+        }
+        k += 1;
+    }
+    zero_from(r, 4 + 4 * n)
+}
+
+// Whether a chain record keeps to the layout.
+fn record_ok(r: &[u8]) -> bool
+    ensures { λ b. ⌜ b ≡ recordOk (now (r .entry)) ⌝ }
+{
+    let n = get8(r, 3);
+    if get8(r, 2) == 1 {
+        if n <= 7 {
+            return (1 <= n) & points_ok(r, n);
+        }
+        return false;
+    }
+    (get8(r, 2) == 2) & (n == 0) & (1 <= get32(r, 4)) & zero_from(r, 8)
+}
+
+// A record's intervals.
+fn span(r: &[u8]) -> usize
+    ensures { λ n. ⌜ (n ≡ spanOf (now (r .entry))) × (n < 4294967296) ⌝ }
+{
+    if get8(r, 2) == 1 {
+        return get8(r, 3);
+    }
+    get32(r, 4)
+}
+
+fn has_mark(r: &[u8]) -> bool
+    requires { ⌜ length (now r) ≡ 32 ⌝ }
+    ensures { λ b. ⌜ b ≡ hasMark (now (r .entry)) ⌝ }
+{
+    let mark = b"VSYM";
+    (r[0] == mark[0]) & (r[1] == mark[1]) & (r[2] == mark[2]) & (r[3] == mark[3])
+}
+
+// Whether record 0 has the mark, a mode, a role of the mode, and zeros where they are due.
+fn head_ok(r: &[u8]) -> bool
+    requires { ⌜ length (now r) ≡ 32 ⌝ }
+    ensures { λ b. ⌜ b ≡ headOk (now (r .entry)) ⌝ }
+{
+    has_mark(r) & mode_ok(r[4]) & role_ok(r[4], r[5]) & zero_from(r, 12)
+}
+
+// Record i.
+fn record_at(s: &[u8], i: usize) -> &[u8]
+    requires { ⌜ 32 * i + 32 ≤ length (now s) ⌝ }
+    ensures { λ r. ⌜ (now r ≡ rec (now (s .entry)) i) × (length (now r) ≡ 32) ⌝ }
+{
+    let at = 32 * i;
+    let end = at + 32;
+    &s[at..end]
+}
+
+// Where record i holds the next index.
+pub fn link_in(i: usize) -> usize
+    ensures { λ r. ⌜ (r ≡ linkIn i) × (r ≤ 6) ⌝ }
+{
+    if i == 0 {
+        return FIRST_AT;
+    }
+    0
+}
+
+fn next_of(s: &[u8], i: usize) -> usize
+    requires { ⌜ i < 2048 ⌝ }
+    ensures { λ r. ⌜ (r ≡ next (now (s .entry)) i) × (r < 65536) ⌝ }
+{
+    get16(s, 32 * i + link_in(i))
+}
+
+// ---- the walk along the chain
+
+// What a walk along the chain finds: whether it ends within the store, whether its records keep to the layout, their
+// intervals, and the last and the greatest index.
+struct Trail {
+    ends: bool,
+    fine: bool,
+    sum: usize,
+    last: usize,
+    greatest: usize,
+}
+
+fn larger(a: usize, b: usize) -> usize
+    ensures { λ r. ⌜ r ≡ max a b ⌝ }
+{
+    if a < b { b } else { a }
+}
+
+// The walk over one record more.
+fn passed(t: Trail, s: &[u8], i: usize) -> Trail
+    requires { ⌜ (32 * i + 32 ≤ length (now s)) × (t .sum < 17592186044416) ⌝ }
+    ensures { λ r. ⌜ Passed (now (s .entry)) i t r ⌝ }
+{
+    let r = record_at(s, i);
+    Trail {
+        ends: t.ends,
+        fine: t.fine & record_ok(r),
+        sum: t.sum + span(r),
+        last: i,
+        greatest: larger(t.greatest, i),
+    }
+}
+
+// The walk of the whole chain. It ends on every store: after as many steps as there are records an index has come twice.
+fn follow(s: &[u8]) -> Trail
+    requires { ⌜ Sized (now s) ⌝ }
+    ensures { λ r. ⌜ Walked (now (s .entry)) r ⌝ }
+{
+    let n = s.len() / 32;
+    let mut t = Trail {
+        ends: false,
+        fine: true,
+        sum: 0,
+        last: 0,
+        greatest: 0,
+    };
+    let mut i = next_of(s, 0);
+    let mut k = 0;
+    while i != 0 {
+        if n <= i {
+            return t;
+        }
+        if n <= k {
+            return t;
+        }
+        t = passed(t, s, i);
+        k += 1;
+        i = next_of(s, i);
+    }
+    Trail {
+        ends: true,
+        fine: t.fine,
+        sum: t.sum,
+        last: t.last,
+        greatest: t.greatest,
+    }
+}
+
+// What an append has to know of a store: the number that it is refused with, or 0, and then the chain's last and greatest
+// index and the total.
+pub struct View {
+    pub number: u8,
+    pub last: usize,
+    pub greatest: usize,
+    pub total: usize,
+}
+
+// The number of a need that is not met, else the rest.
+pub fn need(met: bool, number: u8, rest: u8) -> u8
+    ensures { λ r. ⌜ r ≡ Rattle.store.specs.Store.need met number rest ⌝ }
+{
+    if met { rest } else { number }
+}
+
+pub fn or_else(a: u8, b: u8) -> u8
+    ensures { λ r. ⌜ r ≡ orElse a b ⌝ }
+{
+    if a == 0 {
+        return b;
+    }
+    a
+}
+
+pub fn size_ok(s: &[u8]) -> bool
+    ensures { λ b. ⌜ b ≡ sizeOk (now (s .entry)) ⌝ }
+{
+    (s.len() % 32 == 0) & (64 <= s.len()) & (s.len() <= 65536)
+}
+
+// A store of a right size.
+fn inspect_sized(s: &[u8]) -> View
+    requires { ⌜ sizeOk (now s) ≡ true ⌝ }
+    ensures { λ v. ⌜ Viewed (now (s .entry)) v ⌝ }
+{
+    let t = follow(s);
+    let total = get32(s, TOTAL_AT);
+    let head = head_ok(record_at(s, 0));
+    View {
+        number: need(
+            head,
+            12,
+            need(t.ends, 13, need(t.fine, 14, need(total == t.sum, 15, 0))),
+        ),
+        last: t.last,
+        greatest: t.greatest,
+        total,
+    }
+}
+
+// The store's numbers, 11 to 15, in one walk.
+pub fn inspect(s: &[u8]) -> View
+    ensures { λ v. ⌜ Viewed (now (s .entry)) v ⌝ }
+{
+    if size_ok(s) {
+        inspect_sized(s)
+    } else {
+        View {
+            number: 11,
+            last: 0,
+            greatest: 0,
+            total: 0,
+        }
+    }
+}

@@ -1,0 +1,146 @@
+-- Needs, and what a call answers from what it looked at. Assumes nothing.
+use mathlib.Core.Path.{_≡_, refl, sym, ap, _∙_, subst}
+use mathlib.Core.Bool.{Bool, true, false, not, _&&_, _||_, cond, false≢true}
+use Prim.Native.Nat.{ℕ, zero, suc, _+_, _*_, _-_, _≤_, _<_}
+use native.Mathlib.Omega.{arith}
+use borrow.Author.Tests.{eqb-true, eqb-false, eq-eqb, ne-eqb, leb-true, le-leb, lt-ltb, le-ltb, ltb-true, not-true}
+use mathlib.Core.List.{List, [], _∷_}
+use lib.Dec.{eqb, leb, ltb}
+use lib.ListN.{length}
+use Rattle.store.specs.Store.{need, chain, total, refusal}
+use Rattle.line.specs.declared.Point.{Point}
+use Rattle.line.specs.Point.{inRange}
+use Rattle.store.specs.declared.View.{View}
+use Rattle.store.specs.Chain.{greatest}
+use Rattle.octets.specs.Number.{le16, le32}
+use Rattle.store.specs.Layout.{count, rec, write, linkIn, totalAt, held, isPoints, lostRecord}
+use Rattle.track.specs.Append.{mostIntervals, newIndex, isFull, made, makeNumber, makeResult, lostAppended, lostNumber, lostResult, hasRoom, pointAppended, pointNumber, pointResult}
+use Rattle.store.specs.Store.{orElse, lastIn}
+use Rattle.store.specs.Walk.{Viewed}
+use Rattle.track.specs.Seen.{spaces, lostSeen, pointSeen}
+use Rattle.octets.proofs.Tests.{by-test, and-split}
+use Rattle.store.proofs.Sounds.{Sound, accepted-sound, sound-greatest, need-zero, or-zero, or-same}
+
+-- ---- making
+pub make-done : (s : List ℕ) (mode role : ℕ) → makeNumber s mode role ≡ 0 → made (length s) mode role ≡ makeResult s mode role
+unfolding makeResult
+make-done s mode role e = rw (eq-eqb (makeNumber s mode role) 0 e)
+
+pub make-kept : (s : List ℕ) (mode role : ℕ) → (makeNumber s mode role ≡ 0 → ⊥) → s ≡ makeResult s mode role
+unfolding makeResult
+make-kept s mode role h = rw (ne-eqb (makeNumber s mode role) 0 h)
+
+-- ---- a lost count
+pub lost-seen : (s : List ℕ) (v : View) (full : Bool) (n : ℕ) → Viewed s v → full ≡ eqb (v .greatest + 1) (count s)
+    → lostSeen (v .number) (v .total) full n ≡ lostNumber s n
+unfolding lostSeen lostNumber
+lost-seen s v full n w f =
+    let mine : ℕ = need (leb (v .total + n) mostIntervals) 16 (need (not full) 17 0) in
+    let rest : ℕ = need (leb (total s + n) mostIntervals) 16 (need (not (isFull s)) 17 0) in
+    ap (need (leb 1 n) 9) (or-same (v .number) mine rest (λ z. cc (w .total-is z, w .most z, f)) ∙ ap (λ (x : ℕ). orElse x rest) (w .number))
+
+-- what holds of a store that a new record is not refused for
+not-full : (s : List ℕ) → refusal s ≡ 0 → not (isFull s) ≡ true → newIndex (chain s) < count s
+not-full s acc e =
+    let g : greatest (chain s) < count s = sound-greatest s (accepted-sound s acc) in
+    let ne = eqb-false (newIndex (chain s)) (count s) (not-true (isFull s) e) in
+    omega (arith, ne)
+
+pub record LostFree (s : List ℕ) (n : ℕ) : Type 0 where
+  pub accepted : refusal s ≡ 0
+  pub some : 1 ≤ n
+  pub fits : total s + n ≤ 4294967295
+  pub room : newIndex (chain s) < count s
+
+pub lost-free : (s : List ℕ) (n : ℕ) → lostNumber s n ≡ 0 → LostFree s n
+unfolding lostNumber
+lost-free s n e =
+    let last : ℕ = need (not (isFull s)) 17 0 in
+    let rest : ℕ = need (leb (total s + n) mostIntervals) 16 last in
+    let a = need-zero (leb 1 n) 9 (orElse (refusal s) rest) (omega arith) e in
+    let b = or-zero (refusal s) rest (a .1) in
+    let c = need-zero (leb (total s + n) mostIntervals) 16 last (omega arith) (b .1) in
+    let d = need-zero (not (isFull s)) 17 0 (omega arith) (c .1) in
+    record { accepted = b .0; some = leb-true 1 n (a .0); fits = leb-true (total s + n) 4294967295 (c .0); room = not-full s (b .0) (d .0) }
+
+pub lost-done : (s : List ℕ) (n : ℕ) → lostNumber s n ≡ 0 → lostAppended s n ≡ lostResult s n
+unfolding lostResult
+lost-done s n e = rw (eq-eqb (lostNumber s n) 0 e)
+
+-- the writes of an append, from what it looked at
+pub lost-linked : (s : List ℕ) (v : View) (r : List ℕ) (n : ℕ) → Viewed s v → lostNumber s n ≡ 0 → r ≡ lostRecord n
+    → write (write (write s (v .greatest + 1) 0 r) (v .last) (linkIn (v .last)) (le16 (v .greatest + 1))) 0 totalAt (le32 (v .total + n)) ≡ lostResult s n
+unfolding lostAppended
+lost-linked s v r n w e h =
+    let z : v .number ≡ 0 = w .number ∙ lost-free s n e .accepted in
+    rw (w .last z, w .most z, w .total-is z, h) (lost-done s n e)
+
+pub lost-kept : (s : List ℕ) (n : ℕ) → (lostNumber s n ≡ 0 → ⊥) → s ≡ lostResult s n
+unfolding lostResult
+lost-kept s n h = rw (ne-eqb (lostNumber s n) 0 h)
+
+-- ---- a point
+pub room-less : (s : List ℕ) (i : ℕ) → hasRoom s i ≡ true → held (rec s i) < 7
+unfolding hasRoom
+room-less s i e = ltb-true (held (rec s i)) 7 (and-split (not (eqb i 0) && isPoints (rec s i)) (ltb (held (rec s i)) 7) e .1)
+
+-- the spaces of an accepted store, from what is known of it
+pub room-below : (s : List ℕ) (v : View) → Viewed s v → v .number ≡ 0 → v .greatest + 1 ≤ count s
+room-below s v w z = omega (arith, w .most z, sound-greatest s (accepted-sound s (sym (w .number) ∙ z)))
+
+pub room-in-last : (s : List ℕ) (v : View) (k : ℕ) → Viewed s v → v .number ≡ 0 → hasRoom s (v .last) ≡ true → k ≡ held (rec s (v .last))
+    → 7 - k + 7 * (count s - (v .greatest + 1)) ≡ spaces s
+unfolding spaces
+room-in-last s v k w z r e = rw (← w .last z, ← w .most z, r, e)
+
+pub room-in-new : (s : List ℕ) (v : View) → Viewed s v → v .number ≡ 0 → hasRoom s (v .last) ≡ false
+    → 7 * (count s - (v .greatest + 1)) ≡ spaces s
+unfolding spaces
+room-in-new s v w z r = rw (← w .last z, ← w .most z, r) (omega arith)
+
+-- there is a space for a point exactly where number 17 does not apply
+spaces-some : (s : List ℕ) → refusal s ≡ 0 → ltb 0 (spaces s) ≡ (hasRoom s (lastIn s) || not (isFull s))
+unfolding spaces
+spaces-some s acc =
+    let g : greatest (chain s) < count s = sound-greatest s (accepted-sound s acc) in
+    by-test (hasRoom s (lastIn s))
+    (λ e. let h : held (rec s (lastIn s)) < 7 = room-less s (lastIn s) e in
+    rw e (lt-ltb 0 (7 - held (rec s (lastIn s)) + 7 * (count s - newIndex (chain s))) (omega arith)))
+    (λ e. rw e (by-test (isFull s)
+    (λ f. let q : newIndex (chain s) ≡ count s = eqb-true (newIndex (chain s)) (count s) f in
+    rw f (le-ltb 0 (0 + 7 * (count s - newIndex (chain s))) (omega arith)))
+    (λ f. let q = eqb-false (newIndex (chain s)) (count s) f in
+    rw f (lt-ltb 0 (0 + 7 * (count s - newIndex (chain s))) (omega (arith, q))))))
+
+pub point-seen : (s : List ℕ) (number t room : ℕ) (p : Point) → number ≡ refusal s → (number ≡ 0 → t ≡ total s) → (number ≡ 0 → room ≡ spaces s)
+    → pointSeen number t room p ≡ pointNumber s p
+unfolding pointSeen pointNumber
+point-seen s number t room p w f g =
+    let mine : ℕ = need (leb (t + 1) mostIntervals) 16 (need (ltb 0 room) 17 0) in
+    let rest : ℕ = need (leb (total s + 1) mostIntervals) 16 (need (hasRoom s (lastIn s) || not (isFull s)) 17 0) in
+    ap (need (inRange p) 8) (or-same number mine rest (λ z. cc (f z, g z, spaces-some s (sym w ∙ z))) ∙ ap (λ (x : ℕ). orElse x rest) w)
+
+pub record PointFree (s : List ℕ) (p : Point) : Type 0 where
+  pub accepted : refusal s ≡ 0
+  pub range : inRange p ≡ true
+  pub fits : total s + 1 ≤ 4294967295
+  pub room : hasRoom s (lastIn s) ≡ false → newIndex (chain s) < count s
+
+pub point-free : (s : List ℕ) (p : Point) → pointNumber s p ≡ 0 → PointFree s p
+unfolding pointNumber
+point-free s p e =
+    let last : ℕ = need (hasRoom s (lastIn s) || not (isFull s)) 17 0 in
+    let rest : ℕ = need (leb (total s + 1) mostIntervals) 16 last in
+    let a = need-zero (inRange p) 8 (orElse (refusal s) rest) (omega arith) e in
+    let b = or-zero (refusal s) rest (a .1) in
+    let c = need-zero (leb (total s + 1) mostIntervals) 16 last (omega arith) (b .1) in
+    let d = need-zero (hasRoom s (lastIn s) || not (isFull s)) 17 0 (omega arith) (c .1) in
+    record { accepted = b .0; range = a .0; fits = leb-true (total s + 1) 4294967295 (c .0); room = λ r. not-full s (b .0) (rw r at (d .0)) }
+
+pub point-done : (s : List ℕ) (p : Point) → pointNumber s p ≡ 0 → pointAppended s p ≡ pointResult s p
+unfolding pointResult
+point-done s p e = rw (eq-eqb (pointNumber s p) 0 e)
+
+pub point-kept : (s : List ℕ) (p : Point) → (pointNumber s p ≡ 0 → ⊥) → s ≡ pointResult s p
+unfolding pointResult
+point-kept s p h = rw (ne-eqb (pointNumber s p) 0 h)

@@ -1,0 +1,76 @@
+use denote.Ref.{now}
+use mathlib.Core.Path.{_≡_, refl, sym, ap, _∙_}
+use Rattle.track.specs.Append.{lostNumber}
+use Rattle.track.proofs.Answers.{lost-seen, lost-linked, lost-kept}
+use borrow.Author.Needs.{needs}
+use Rattle.track.proofs.append_lost.Statement.{statement}
+use Rattle.track.proofs.append_lost.Tie as tie
+use Rattle.track.proofs.append_lost.Reads as reads
+use Rattle.track.proofs.append_lost.Lts as lts
+use Rattle.store.proofs.inspect.Reads as inspect-reads
+use Rattle.track.proofs.link.Reads as link-reads
+use Rattle.track.proofs.lost_number.Reads as lost-number-reads
+use Rattle.track.proofs.lost_record.Reads as lost-record-reads
+
+inspect-requires : tie.Need-inspect-requires
+inspect-requires c κs = search needs
+
+add-full : tie.Need-add-full
+add-full c = search needs
+
+lost-number-requires : tie.Need-lost-number-requires
+lost-number-requires c κs = search needs
+
+add-link : tie.Need-add-link
+add-link c = search needs
+
+lost-record-requires : tie.Need-lost-record-requires
+lost-record-requires c κs = search needs
+
+slice-aggregate-link : tie.Need-slice-aggregate-link
+slice-aggregate-link c = search needs
+
+add-link-2 : tie.Need-add-link-2
+add-link-2 c = search needs
+
+link-requires : tie.Need-link-requires
+link-requires c κs = search needs
+
+same-length : tie.Need-same-length
+same-length c = search needs
+
+returns : tie.Need-returns
+returns c =
+    let a = c .before .before .before .before .before .before .before .before .before .before .before .before .before .before .args in
+    let v = c .before .before .before .before .before .before .before .before .before .before .before .inspect in
+    let n : c .before .before .before .before .before .before .before .before .before .lost-number .result ≡ lostNumber (now (a .store)) (a .n) =
+    c .before .before .before .before .before .before .before .before .before .lost-number .ensures ∙ lost-seen (now (a .store)) (v .result) _ (a .n) (v .ensures) refl in
+    (n, c .before .before .link .ensures ∙ lost-linked (now (a .store)) (v .result) _ (a .n) (v .ensures) (sym n ∙ c .before .before .before .before .before .before .before .before .if1 .taken) (c .before .before .before .before .before .lost-record .ensures))
+
+same-length-2 : tie.Need-same-length-2
+same-length-2 c = search needs
+
+returns-2 : tie.Need-returns-2
+returns-2 c =
+    let a = c .before .before .before .before .before .before .args in
+    let v = c .before .before .before .inspect in
+    let n : c .before .lost-number .result ≡ lostNumber (now (a .store)) (a .n) =
+    c .before .lost-number .ensures ∙ lost-seen (now (a .store)) (v .result) _ (a .n) (v .ensures) refl in
+    (n, lost-kept (now (a .store)) (a .n) (λ e. c .if1 .left (n ∙ e)))
+
+pub append-lost-spec : {M : Type 1} → statement M
+append-lost-spec =
+    tie.close
+    (tie.spec
+    inspect-requires
+    add-full
+    lost-number-requires
+    add-link
+    lost-record-requires
+    slice-aggregate-link
+    add-link-2
+    link-requires
+    same-length
+    returns
+    same-length-2
+    returns-2)

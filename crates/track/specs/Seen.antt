@@ -1,0 +1,28 @@
+-- What an append sees of a store: the contracts of the private functions.
+use mathlib.Core.Bool.{Bool, not, cond}
+use mathlib.Core.List.{List, [], _∷_}
+use Prim.Native.Nat.{ℕ, zero, suc, _+_, _*_, _-_}
+use lib.Dec.{ltb, leb}
+use Rattle.line.specs.declared.Point.{Point}
+use Rattle.line.specs.Point.{inRange}
+use Rattle.store.specs.Layout.{count, rec, held}
+use Rattle.store.specs.Store.{need, orElse, chain, lastIn}
+use Rattle.track.specs.Append.{mostIntervals, newIndex, hasRoom}
+
+-- how many points an accepted store still takes: those in its last record and those in new ones
+unfoldable pub spaces : List ℕ → ℕ
+spaces s = cond (hasRoom s (lastIn s)) (7 - held (rec s (lastIn s))) 0 + 7 * (count s - newIndex (chain s))
+
+-- the number that refuses a point, or a lost count: from the store's number, its total t, and whether there is room
+unfoldable pub pointSeen : ℕ → ℕ → ℕ → Point → ℕ
+pointSeen number t room p =
+    need (inRange p) 8 (orElse number (need (leb (t + 1) mostIntervals) 16 (need (ltb 0 room) 17 0)))
+
+unfoldable pub lostSeen : ℕ → ℕ → Bool → ℕ → ℕ
+lostSeen number t full n =
+    need (leb 1 n) 9 (orElse number (need (leb (t + n) mostIntervals) 16 (need (not full) 17 0)))
+
+-- the number of the first point that is refused, each taking one interval and one place
+unfoldable pub seenNumber : ℕ → ℕ → ℕ → List Point → ℕ
+seenNumber number t room [] = 0
+seenNumber number t room (p ∷ ps) = orElse (pointSeen number t room p) (seenNumber number (t + 1) (room - 1) ps)

@@ -1,0 +1,286 @@
+// The track store: making it, and appending points and lost intervals. Document 01, "Track store".
+use line::in_range;
+use line::mode_ok;
+use line::role_ok;
+use octets::clear;
+use octets::get8;
+use octets::pattern_of;
+use octets::put_all;
+use octets::put_i16;
+use octets::put8;
+use octets::put16;
+use octets::put32;
+use store::TOTAL_AT;
+use store::View;
+use store::inspect;
+use store::link_in;
+use store::need;
+use store::or_else;
+use store::size_ok;
+ghost use mathlib.Core.Path.{_≡_};
+ghost use mathlib.Core.Bool.{true, false};
+ghost use mathlib.Core.List.{[], _∷_};
+ghost use Prim.Native.Nat.{_+_, _*_, _≤_, _<_};
+ghost use lib.ListN.{length};
+ghost use Rattle.line.specs.Point.{at};
+ghost use Rattle.octets.specs.Number.{le16, le32};
+ghost use Rattle.store.specs.Layout.{rec, write, linkIn, totalAt, held, lostRecord, pointBytes, pointRecord};
+ghost use Rattle.store.specs.Walk.{Viewed};
+ghost use Rattle.track.specs.Append.{made, makeNumber, makeResult, lostNumber, lostResult, hasRoom, pointNumber, pointAppended, pointResult};
+ghost use Rattle.track.specs.Points.{pairs, eachNumber, eachResult, pointsNumber, pointsResult};
+ghost use Rattle.track.specs.Seen.{spaces, pointSeen, lostSeen, seenNumber};
+
+const MOST_INTERVALS: usize = 4294967295;
+
+// ---- making
+
+// The bytes of an empty store.
+fn put_head(store: &mut [u8], mode: u8, role: u8)
+    ensures { λ _. ⌜ now (store .exit) ≡ made (length (now (store .entry))) mode role ⌝ }
+{
+    clear(store);
+    put_all(store, 0, b"VSYM");
+    put8(store, 4, mode);
+    put8(store, 5, role);
+}
+
+// Makes an empty store: 0, or the number that refuses it.
+pub fn make(store: &mut [u8], mode: u8, role: u8) -> u8
+    ensures { λ r. ⌜ (r ≡ makeNumber (now (store .entry)) mode role) × (now (store .exit) ≡ makeResult (now (store .entry)) mode role) ⌝ }
+{
+    let number = need(
+        mode_ok(mode),
+        1,
+        need(role_ok(mode, role), 2, need(size_ok(store), 11, 0)),
+    );
+    if number == 0 {
+        put_head(store, mode, role);
+    }
+    number
+}
+
+// ---- appending
+
+// The bytes of a new record.
+fn lost_record(n: usize) -> [u8; 32]
+    ensures { λ r. ⌜ r ≡ lostRecord n ⌝ }
+{
+    let mut r = [0u8; 32];
+    r[2] = 2;
+    r[4] = (n % 65536 % 256) as u8;
+    r[5] = (n % 65536 / 256 % 256) as u8;
+    r[6] = (n / 65536 % 256) as u8;
+    r[7] = (n / 65536 / 256 % 256) as u8;
+    r
+}
+
+fn point_record(re: i16, im: i16) -> [u8; 32]
+    ensures { λ r. ⌜ r ≡ pointRecord (at re im) ⌝ }
+{
+    let a = pattern_of(re);
+    let b = pattern_of(im);
+    let mut r = [0u8; 32];
+    r[2] = 1;
+    r[3] = 1;
+    r[4] = (a % 256) as u8;
+    r[5] = (a / 256 % 256) as u8;
+    r[6] = (b % 256) as u8;
+    r[7] = (b / 256 % 256) as u8;
+    r
+}
+
+// The new record `r` at index `new`, its link in the chain's last record, and the total.
+fn link(store: &mut [u8], last: usize, new: usize, r: &[u8], total: usize)
+    requires { ⌜ (last < 2048) × (new ≤ 2048) ⌝ }
+    ensures { λ _. ⌜ now (store .exit) ≡ write (write (write (now (store .entry)) new 0 (now (r .entry))) last (linkIn last) (le16 new)) 0 totalAt (le32 total) ⌝ }
+{
+    put_all(store, 32 * new, r);
+    put16(store, 32 * last + link_in(last), new);
+    put32(store, TOTAL_AT, total);
+}
+
+// One point more in record i, which holds k, and the total.
+fn grow(store: &mut [u8], i: usize, k: usize, re: i16, im: i16, total: usize)
+    requires { ⌜ (i < 2048) × (k < 7) ⌝ }
+    ensures { λ _. ⌜ now (store .exit) ≡ write (write (write (now (store .entry)) i 3 ((k + 1) ∷ [])) i (4 + 4 * k) (pointBytes (at re im))) 0 totalAt (le32 total) ⌝ }
+{
+    let at = 32 * i + (4 + 4 * k);
+    put8(store, 32 * i + 3, (k + 1) as u8);
+    put_i16(store, at, re);
+    put_i16(store, at + 2, im);
+    put32(store, TOTAL_AT, total);
+}
+
+// How many points record i holds.
+fn held_in(s: &[u8], i: usize) -> usize
+    requires { ⌜ i < 2048 ⌝ }
+    ensures { λ r. ⌜ r ≡ held (rec (now (s .entry)) i) ⌝ }
+{
+    get8(s, 32 * i + 3)
+}
+
+// Whether record i is a chain record of points with room for another.
+fn has_room(s: &[u8], i: usize) -> bool
+    requires { ⌜ i < 2048 ⌝ }
+    ensures { λ r. ⌜ r ≡ hasRoom (now (s .entry)) i ⌝ }
+{
+    (i != 0) & (get8(s, 32 * i + 2) == 1) & (held_in(s, i) < 7)
+}
+
+// How many points a store still takes; 0 for a refused one.
+fn room_for(s: &[u8], v: View) -> usize
+    requires { ⌜ Viewed (now s) v ⌝ }
+    ensures { λ r. ⌜ (v .number ≡ 0 → r ≡ spaces (now (s .entry))) ⌝ }
+{
+    if v.number != 0 {
+        return 0;
+    }
+    let last = v.last;
+    let fresh = 7 * (s.len() / 32 - (v.greatest + 1));
+    if has_room(s, last) {
+        return 7 - held_in(s, last) + fresh;
+    }
+    fresh
+}
+
+// The number that refuses a point, or 0.
+fn point_number(number: u8, total: usize, room: usize, re: i16, im: i16) -> u8
+    requires { ⌜ total ≤ 4294967295 ⌝ }
+    ensures { λ r. ⌜ r ≡ pointSeen number total room (at re im) ⌝ }
+{
+    need(
+        in_range(re, im),
+        8,
+        or_else(
+            number,
+            need(total + 1 <= MOST_INTERVALS, 16, need(0 < room, 17, 0)),
+        ),
+    )
+}
+
+// The number that refuses a lost count, or 0.
+fn lost_number(number: u8, total: usize, full: bool, n: usize) -> u8
+    requires { ⌜ (total ≤ 4294967295) × (n ≤ 4294967295) ⌝ }
+    ensures { λ r. ⌜ r ≡ lostSeen number total full n ⌝ }
+{
+    need(
+        1 <= n,
+        9,
+        or_else(
+            number,
+            need(total + n <= MOST_INTERVALS, 16, need(!full, 17, 0)),
+        ),
+    )
+}
+
+// Appends a lost count: 0, or the number that refuses it.
+pub fn append_lost(store: &mut [u8], n: u32) -> u8
+    ensures { λ r. ⌜ (r ≡ lostNumber (now (store .entry)) n) × (now (store .exit) ≡ lostResult (now (store .entry)) n) ⌝ }
+{
+    let v = inspect(store);
+    let lost = n as usize;
+    let full = v.greatest + 1 == store.len() / 32;
+    let number = lost_number(v.number, v.total, full, lost);
+    if number == 0 {
+        link(
+            store,
+            v.last,
+            v.greatest + 1,
+            &lost_record(lost),
+            v.total + lost,
+        );
+    }
+    number
+}
+
+// Appends a point that nothing refuses to the store that `v` shows; what an append has to know of it after that.
+fn place_point(store: &mut [u8], v: View, re: i16, im: i16) -> View
+    requires { ⌜ Viewed (now store) v × (pointNumber (now store) (at re im) ≡ 0) ⌝ }
+    ensures { λ w. ⌜ (now (store .exit) ≡ pointAppended (now (store .entry)) (at re im)) × Viewed (now (store .exit)) w ⌝ }
+{
+    let last = v.last;
+    let total = v.total + 1;
+    if has_room(store, last) {
+        let k = held_in(store, last);
+        grow(store, last, k, re, im, total);
+        return View {
+            number: 0,
+            last,
+            greatest: v.greatest,
+            total,
+        };
+    }
+    let new = v.greatest + 1;
+    link(store, last, new, &point_record(re, im), total);
+    View {
+        number: 0,
+        last: new,
+        greatest: new,
+        total,
+    }
+}
+
+// Appends a point: 0, or the number that refuses it.
+pub fn append_point(store: &mut [u8], re: i16, im: i16) -> u8
+    ensures { λ r. ⌜ (r ≡ pointNumber (now (store .entry)) (at re im)) × (now (store .exit) ≡ pointResult (now (store .entry)) (at re im)) ⌝ }
+{
+    let v = inspect(store);
+    let room = room_for(store, v);
+    let number = point_number(v.number, v.total, room, re, im);
+    if number == 0 {
+        place_point(store, v, re, im);
+    }
+    number
+}
+
+// ---- many points by one call
+
+// The number of the first point that is refused, or 0.
+fn points_number(number: u8, total: usize, room: usize, points: &[i16]) -> u8
+    requires { ⌜ total ≤ 4294967295 ⌝ }
+    ensures { λ r. ⌜ r ≡ seenNumber number total room (pairs (now (points .entry))) ⌝ }
+{
+    let mut taken = total;
+    let mut left = room;
+    let mut k = 0;
+    while k + 1 < points.len() {
+        let n = point_number(number, taken, left, points[k], points[k + 1]);
+        if n != 0 {
+            return n;
+        }
+        taken += 1;
+        left -= 1;
+        k += 2;
+    }
+    0
+}
+
+// Appends points that nothing refuses to the store that `v` shows.
+fn place_points(store: &mut [u8], v: View, points: &[i16])
+    requires { ⌜ Viewed (now store) v × (eachNumber (now store) (pairs (now points)) ≡ 0) ⌝ }
+    ensures { λ _. ⌜ now (store .exit) ≡ eachResult (now (store .entry)) (pairs (now (points .entry))) ⌝ }
+{
+    let mut w = v;
+    let mut k = 0;
+    while k + 1 < points.len() {
+        w = place_point(store, w, points[k], points[k + 1]);
+        k += 2;
+    }
+}
+
+// Appends points, re and im in turn, all or none: 0, or the number that refuses the first refused one. The store is walked
+// once, and the room is counted before anything is written.
+pub fn append_points(store: &mut [u8], points: &[i16]) -> u8
+    ensures { λ r. ⌜ (r ≡ pointsNumber (now (store .entry)) (now (points .entry))) × (now (store .exit) ≡ pointsResult (now (store .entry)) (now (points .entry))) ⌝ }
+{
+    if points.len() % 2 != 0 {
+        return 7;
+    }
+    let v = inspect(store);
+    let room = room_for(store, v);
+    let number = points_number(v.number, v.total, room, points);
+    if number == 0 {
+        place_points(store, v, points);
+    }
+    number
+}
