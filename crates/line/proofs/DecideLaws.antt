@@ -74,56 +74,66 @@ in-one-region m z o = in-one m (z .re) (z .im) o
 
 -- THE ANSWER IS A STATE
 
--- an answer that, if it is a state, is one of the mode
-abbrev Valid : ℕ → Decision → Type 0
-Valid m (State s) = T (isState m s)
-Valid m Origin = Unit {0}
-Valid m NoSector = Unit {0}
+-- a state of the mode, or no sector
+abbrev pub Off : ℕ → Decision → Type 0
+Off m (State y) = T (isState m y)
+Off m Origin = ⊥
+Off m NoSector = Unit {0}
 
-sectors : (p q r : Bool) → Valid 2 (cond p (State 0) (cond q (State 2) (cond r (State 1) NoSector)))
-unfolding states isState
-sectors true q r = tt
-sectors false true r = tt
-sectors false false true = tt
-sectors false false false = tt
+pub turns-state : (m : ℕ) → T (isMode m) → (k x : ℕ) → T (isState m x) → T (isState m (turns m k x))
+turns-state m hm zero x h = h
+turns-state m hm (suc k) x h = of-state m (turns m k x) hm (turns-state m hm k x h) .turned
 
-levels : (p q : Bool) → Valid 4 (State (12 + cond p 1 0 + 2 * cond q 1 0))
-unfolding states isState
-levels true true = tt
-levels true false = tt
-levels false true = tt
-levels false false = tt
+either : (m : ℕ) (b : Bool) (c d : Decision) → Off m c → Off m d → Off m (cond b c d)
+either m true c d p q = p
+either m false c d p q = q
 
-first-valid : (m : ℕ) → T (isMode m) → (z : Point) → Valid m (first m z)
-first-valid =
-    mode-cases (λ m. (z : Point) → Valid m (first m z))
-    (λ z. unfold first states isState in tt)
-    (λ z. unfold first sector in (sectors (ltZ (square (z .re +ℤ z .im)) (pos 2 *ℤ square (z .re))) (ltZ (square (z .re +ℤ z .im)) (pos 2 *ℤ square (z .im)))
-    (ltZ (pos 2 *ℤ square (z .re)) (square (z .re +ℤ z .im)) && ltZ (pos 2 *ℤ square (z .im)) (square (z .re +ℤ z .im)))))
-    (λ z. unfold first states isState in tt)
-    (λ z. unfold first outer in (levels (leb 2048 (natAbs (z .re))) (leb 2048 (natAbs (z .im)))))
+sector-off : (z : Point) → Off 2 (sector z)
+unfolding sector isState states
+sector-off z =
+    let s : ℤ = square (z .re +ℤ z .im) in
+    let x : ℤ = pos 2 *ℤ square (z .re) in
+    let y : ℤ = pos 2 *ℤ square (z .im) in
+    let between : Decision = cond (ltZ x s && ltZ y s) (State 1) NoSector in
+    either 2 (ltZ s x) (State 0) (cond (ltZ s y) (State 2) between) tt
+    (either 2 (ltZ s y) (State 2) between tt (either 2 (ltZ x s && ltZ y s) (State 1) NoSector tt tt))
 
-pub turns-state : (m k x : ℕ) → T (isMode m) → T (isState m x) → T (isState m (turns m k x))
-turns-state m zero x hm h = h
-turns-state m (suc k) x hm h = of-state m (turns m k x) hm (turns-state m k x hm h) .turned
+corner-state : (a b : Bool) → T (isState 4 (12 + cond a 1 0 + 2 * cond b 1 0))
+unfolding isState states
+corner-state true true = tt
+corner-state true false = tt
+corner-state false true = tt
+corner-state false false = tt
 
-turned-valid : (m k : ℕ) (d : Decision) → T (isMode m) → Valid m d → Valid m (turnedAnswer m k d)
+first-off : (m : ℕ) → T (isMode m) → (z : Point) → Off m (first m z)
+first-off =
+    mode-cases (λ m. (z : Point) → Off m (first m z)) (unfold first isState states in (λ z. tt)) (unfold first in sector-off)
+    (unfold first isState states in (λ z. tt)) (unfold first outer in (λ z. corner-state (leb 2048 (natAbs (z .re))) (leb 2048 (natAbs (z .im)))))
+
+turned-off : (m : ℕ) → T (isMode m) → (k : ℕ) (d : Decision) → Off m d → Off m (turnedAnswer m k d)
 unfolding turnedAnswer
-turned-valid m k (State s) hm v = turns-state m (k * quarterSteps m) s hm v
-turned-valid m k Origin hm v = tt
-turned-valid m k NoSector hm v = tt
+turned-off m hm k (State y) h = turns-state m hm (k * quarterSteps m) y h
+turned-off m hm k Origin h = h
+turned-off m hm k NoSector h = h
 
-decide-valid : (m : ℕ) (z : Point) → T (isMode m) → Valid m (decide m z)
+pub decide-off : (m : ℕ) → T (isMode m) → (z : Point) → isOrigin z ≡ false → Off m (decide m z)
 unfolding decide
-decide-valid m z hm = go (isOrigin z)
-  where
-    go : (b : Bool) → Valid m (cond b Origin (decideBy m (quarters m z) z))
-    go true = tt
-    go false = turned-valid m (quarters m z) _ hm (first-valid m hm (turnedBy ((4 - quarters m z) % 4) z))
+decide-off m hm z o =
+    let k : ℕ = quarters m z in
+    let p : Point = turnedBy ((4 - k) % 4) z in
+    subst (λ (b : Bool). Off m (cond b Origin (turnedAnswer m k (first m p)))) (sym o) (turned-off m hm k (first m p) (first-off m hm p))
+
+at-origin : (m : ℕ) (z : Point) → isOrigin z ≡ true → decide m z ≡ Origin
+unfolding decide
+at-origin m z e = ap (λ (b : Bool). cond b Origin (decideBy m (quarters m z) z)) e
 
 -- a decided state is one of the mode
 pub decided-state : (m : ℕ) (z : Point) (s : ℕ) → T (isMode m) → decide m z ≡ State s → T (isState m s)
-decided-state m z s hm e = subst (Valid m) e (decide-valid m z hm)
+decided-state m z s hm e = go (isOrigin z) refl
+  where
+    go : (b : Bool) → isOrigin z ≡ b → T (isState m s)
+    go true o = let p : Origin ≡ State s = sym (at-origin m z o) ∙ e in let w : _≡_ {A = ℕ} 0 1 = cc in absurd (omega arith)
+    go false o = subst (Off m) e (decide-off m hm z o)
 
 -- TURNS
 
@@ -141,15 +151,15 @@ answers-add m i j NoSector = refl
 four-quarters : (m : ℕ) → T (isMode m) → 4 * quarterSteps m ≡ wholeSteps m
 four-quarters = mode-cases (λ m. 4 * quarterSteps m ≡ wholeSteps m) (unfold step quarterSteps wholeSteps in refl) (unfold step quarterSteps wholeSteps in refl) (unfold step quarterSteps wholeSteps in refl) (unfold step quarterSteps wholeSteps in refl)
 
-answers-whole : (m : ℕ) (d : Decision) → T (isMode m) → Valid m d → turnedAnswer m 4 d ≡ turnedAnswer m 0 d
+answers-whole : (m : ℕ) (d : Decision) → T (isMode m) → Off m d → turnedAnswer m 4 d ≡ turnedAnswer m 0 d
 unfolding turnedAnswer
 answers-whole m (State s) hm v =
     ap State (ap (λ (n : ℕ). turns m n s) (four-quarters m hm) ∙ of-state m s hm v .whole ∙ ap (λ (n : ℕ). turns m n s) (let e : 0 ≡ 0 * quarterSteps m = omega arith in e))
-answers-whole m Origin hm v = refl
+answers-whole m Origin hm v = absurd v
 answers-whole m NoSector hm v = refl
 
 -- one more turn, after k of them
-next-answer : (m k : ℕ) (d : Decision) → T (isMode m) → Valid m d → k < 4 → turnedAnswer m ((k + 1) % 4) d ≡ turnedAnswer m 1 (turnedAnswer m k d)
+next-answer : (m k : ℕ) (d : Decision) → T (isMode m) → Off m d → k < 4 → turnedAnswer m ((k + 1) % 4) d ≡ turnedAnswer m 1 (turnedAnswer m k d)
 next-answer m k d hm v h = go (decLe k 2)
   where
     go : Dec (k ≤ 2) → turnedAnswer m ((k + 1) % 4) d ≡ turnedAnswer m 1 (turnedAnswer m k d)
@@ -166,7 +176,7 @@ off-decides m z hm o =
     let k : (4 - before j) % 4 ≡ ((4 - j) % 4 + 1) % 4 = eqb→eq _ _ (below-at (λ n. eqb ((4 - before n) % 4) (((4 - n) % 4 + 1) % 4)) 4 tt j h) in
     turn-decide m (turned z) (before j) (omega arith) (turn-before m z j h (i .turn)) (off-turned 1 z o)
     ∙ ap₂ (λ (n : ℕ) (w : Point). turnedAnswer m n (first m w)) k (same-turn j h)
-    ∙ next-answer m ((4 - j) % 4) (first m (turnedBy j z)) hm (first-valid m hm (turnedBy j z)) (omega arith)
+    ∙ next-answer m ((4 - j) % 4) (first m (turnedBy j z)) hm (first-off m hm (turnedBy j z)) (omega arith)
     ∙ ap (turnedAnswer m 1) (sym (turn-decide m z j h (i .turn) o))
   where
     same-turn : (j : ℕ) → j < 4 → turnedBy (before j) (turned z) ≡ turnedBy j z
@@ -175,10 +185,6 @@ off-decides m z hm o =
     same-turn (suc (suc zero)) h = refl
     same-turn (suc (suc (suc zero))) h = refl
     same-turn (suc (suc (suc (suc j)))) h = absurd (omega arith)
-
-at-origin : (m : ℕ) (z : Point) → isOrigin z ≡ true → decide m z ≡ Origin
-unfolding decide
-at-origin m z e = ap (λ (b : Bool). cond b Origin (decideBy m (quarters m z) z)) e
 
 origin-decides : (m : ℕ) (z : Point) → isOrigin z ≡ true → decide m (turned z) ≡ turnedAnswer m 1 (decide m z)
 unfolding turnedAnswer

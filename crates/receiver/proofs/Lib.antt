@@ -1,1 +1,4 @@
 pub mod OutcomeLaws
+pub mod CallLaws
+pub mod TurnLaws
+pub mod ShapeLaws

@@ -1,0 +1,191 @@
+-- What holds after every call and every list of calls: numbers 1, 2 and 4 stay met, mode and role stay, a gap forgets, and the place
+-- counts the intervals of the accepted calls. Assumes nothing.
+use Prim.Native.Nat.{ℕ, zero, suc, _+_}
+use mathlib.Core.Path.{_≡_, refl, sym, _∙_, ap, ap₂, subst}
+use mathlib.Core.Bool.{Bool, true, false, _&&_, not}
+use mathlib.Core.List.{List, [], _∷_}
+use native.Mathlib.Omega.{arith}
+use lib.Dec.{T, eqb, eqb→eq}
+use lib.Pow.{pow-pos}
+use Rattle.line.specs.declared.Point.{Point}
+use Rattle.line.specs.declared.Decision.{Decision}
+use Rattle.line.specs.declared.Decision.the-variants.{State, Origin, NoSector}
+use Rattle.line.specs.Mode.{isMode, isRole, isState, width, face}
+use Rattle.line.specs.Point.{isOrigin}
+use Rattle.line.specs.Decide.{decide}
+use Rattle.line.specs.Code.{group}
+use Rattle.line.specs.Refusal.{need, orNext, accepted}
+use Rattle.line.proofs.RefusalLaws.{need-met, need-rest, need-intro, next-first, next-rest}
+use Rattle.line.proofs.TableLaws.{and-left, and-right, and-intro}
+use Rattle.scrambler.specs.declared.Register.{Register}
+use Rattle.scrambler.specs.Register.{fresh, registerOk}
+use Rattle.scrambler.proofs.BitLaws.{bits-are}
+use Rattle.scrambler.proofs.RegisterLaws.{Ok, ok, passes, ok-pushes}
+use Rattle.receiver.specs.declared.Reference.{Reference}
+use Rattle.receiver.specs.declared.Reference.the-variants.{Nothing as none, State as some}
+use Rattle.receiver.specs.declared.Receiver.{Receiver}
+use Rattle.receiver.specs.Receiver.{receiver, freshReceiver, Event, point, gap, isFresh, fieldsOk, freshRefusal, stateRefusal, inSector, eventRefusal, refusal, Answer, refused, reference, decoded, lost, lineBits, stateAnswer, pointAnswer, eventAnswer, answer, intervals, placeAfter, forgotten, stateLine, stateNext, pointNext, eventNext, next}
+use Rattle.receiver.specs.Calls.{after, Heard, heard, heardIntervals}
+use Rattle.line.proofs.DecideLaws.{Off, decide-off}
+use Rattle.receiver.proofs.OutcomeLaws.{in-sector, next-placed}
+
+-- NUMBERS 1, 2 AND 4
+
+-- what they ask of a state
+pub record Valid (s : Receiver) : Type 0 where
+  pub mode : T (isMode (s .mode))
+  pub role : T (isRole (s .mode) (s .role))
+  pub fields : T (fieldsOk (s .mode) (s .reference) (s .line))
+
+pub valid : (s : Receiver) → stateRefusal s ≡ 0 → Valid s
+unfolding stateRefusal freshRefusal
+valid s z =
+    let y : freshRefusal (s .mode) (s .role) ≡ 0 = next-first (freshRefusal (s .mode) (s .role)) _ z in
+    record {
+      mode = need-met (isMode (s .mode)) 0 _ y;
+      role = need-met (isRole (s .mode) (s .role)) 1 _ (need-rest (isMode (s .mode)) 0 _ y);
+      fields = need-met (fieldsOk (s .mode) (s .reference) (s .line)) 3 _ (next-rest (freshRefusal (s .mode) (s .role)) _ z);
+    }
+
+pub no-refusal : (s : Receiver) → Valid s → stateRefusal s ≡ 0
+unfolding stateRefusal freshRefusal
+no-refusal s v =
+    or-none _ _ (need-intro (isMode (s .mode)) 1 _ (v .mode) (need-intro (isRole (s .mode) (s .role)) 2 0 (v .role) refl))
+    (need-intro (fieldsOk (s .mode) (s .reference) (s .line)) 4 0 (v .fields) refl)
+  where
+    or-none : (a b : ℕ) → a ≡ 0 → b ≡ 0 → orNext a b ≡ 0
+    or-none zero b p q = q
+    or-none (suc a) b p q = p
+
+-- an accepted call shows that its state met them
+pub accepted-valid : (s : Receiver) (e : Event) → refusal s e ≡ 0 → Valid s
+unfolding refusal
+accepted-valid s e z = valid s (next-first (stateRefusal s) _ z)
+
+-- the register of a state that meets them
+pub fields-register : (m : ℕ) (o : Reference) (h : Register) → T (fieldsOk m o h) → Ok m h
+unfolding fieldsOk isFresh
+fields-register m none h t =
+    let y : h .bits ≡ 0 = eqb→eq _ _ (and-left (eqb (h .bits) 0) (eqb (h .held .0) 0) t) in
+    let z : h .held .0 ≡ 0 = eqb→eq _ _ (and-right (eqb (h .bits) 0) (eqb (h .held .0) 0) t) in
+    record { small = omega (arith, pow-pos (h .held .0)); most = omega arith }
+fields-register m (some x) h t = ok m h (and-right (isState m x) (registerOk m h) t)
+
+-- and after a decided point
+pub line-register : (s : Receiver) (o : Reference) (y : ℕ) → T (fieldsOk (s .mode) o (s .line)) → Ok (s .mode) (stateLine s o y)
+unfolding stateLine
+line-register s none y t = fields-register (s .mode) none (s .line) t
+line-register s (some x) y t = ok-pushes (s .mode) (s .line) (lineBits (s .mode) x y) (bits-are (width (s .mode)) (group (s .mode) (face (s .mode) x) y)) (fields-register (s .mode) (some x) (s .line) t)
+
+-- what a point off the origin is decided as, if it is accepted
+pub accepted-off : (s : Receiver) (p : Point) → refusal s (point p) ≡ 0 → isOrigin p ≡ false → Off (s .mode) (decide (s .mode) p)
+accepted-off s p z o = decide-off (s .mode) (accepted-valid s (point p) z .mode) p o
+
+module _ (s : Receiver) (v : Valid s) where
+  forgotten-valid : (n : ℕ) → Valid (forgotten s n)
+  unfolding forgotten fieldsOk isFresh
+  forgotten-valid n = record { mode = v .mode; role = v .role; fields = tt }
+
+  state-valid : (y : ℕ) → T (isState (s .mode) y) → Valid (stateNext s (s .reference) y)
+  unfolding stateNext fieldsOk
+  state-valid y h =
+      record {
+        mode = v .mode;
+        role = v .role;
+        fields = and-intro (isState (s .mode) y) _ h (passes (s .mode) _ (line-register s (s .reference) y (v .fields)));
+      }
+
+  point-valid : (d : Decision) → Off (s .mode) d → Valid (pointNext s d)
+  unfolding pointNext
+  point-valid (State y) h = state-valid y h
+  point-valid Origin h = absurd h
+  point-valid NoSector h = v
+
+  origin-valid : (p : Point) (b : Bool) → isOrigin p ≡ b → Valid (pointNext s (decide (s .mode) p))
+  unfolding pointNext decide
+  origin-valid p true o = rw o (forgotten-valid 1)
+  origin-valid p false o = point-valid (decide (s .mode) p) (decide-off (s .mode) (v .mode) p o)
+
+  event-valid : (e : Event) → Valid (eventNext s e)
+  unfolding eventNext
+  event-valid (point p) = origin-valid p (isOrigin p) refl
+  event-valid (gap n) = forgotten-valid n
+
+  pub next-valid : (e : Event) → Valid (next s e)
+  unfolding next
+  next-valid e = go (refusal s e)
+    where
+      go : (n : ℕ) → Valid (accepted n (eventNext s e) s)
+      go zero = event-valid e
+      go (suc n) = v
+
+-- (a) the state that an accepted call hands back passes 1, 2 and 4
+pub handed-back-passes : (s : Receiver) (e : Event) → refusal s e ≡ 0 → stateRefusal (next s e) ≡ 0
+handed-back-passes s e z = no-refusal (next s e) (next-valid s (accepted-valid s e z) e)
+
+pub fresh-passes : (m role : ℕ) → freshRefusal m role ≡ 0 → stateRefusal (freshReceiver m role) ≡ 0
+unfolding freshReceiver stateRefusal fieldsOk isFresh
+fresh-passes m role z = rw z
+
+pub after-passes : (s : Receiver) (es : List Event) → stateRefusal s ≡ 0 → stateRefusal (after s es) ≡ 0
+after-passes s [] z = z
+after-passes s (e ∷ es) z = after-passes (next s e) es (no-refusal (next s e) (next-valid s (valid s z) e))
+
+-- (b) a gap forgets reference and line bits, the origin's too
+pub gap-forgets : (s : Receiver) (e : Event) (n : ℕ) → answer s e ≡ lost n → (next s e .reference ≡ none) × (next s e .line ≡ fresh)
+unfolding answer next stateAnswer pointAnswer eventAnswer pointNext eventNext forgotten
+gap-forgets s e n q = go (refusal s e) q
+  where
+    of-state : (o : Reference) (y : ℕ) → stateAnswer s o y ≡ lost n → ⊥
+    of-state none y p = let z : _≡_ {A = ℕ} 0 1 = cc in omega arith
+    of-state (some x) y p = let z : _≡_ {A = ℕ} 0 1 = cc in omega arith
+
+    of-point : (d : Decision) → pointAnswer s d ≡ lost n → (pointNext s d .reference ≡ none) × (pointNext s d .line ≡ fresh)
+    of-point (State y) p = absurd (of-state (s .reference) y p)
+    of-point Origin p = (refl, refl)
+    of-point NoSector p = let z : _≡_ {A = ℕ} 0 1 = cc in absurd (omega arith)
+
+    of-event : (e : Event) → eventAnswer s e ≡ lost n → (eventNext s e .reference ≡ none) × (eventNext s e .line ≡ fresh)
+    of-event (point p) a = of-point (decide (s .mode) p) a
+    of-event (gap k) a = (refl, refl)
+
+    go : (k : ℕ) → accepted k (eventAnswer s e) (refused k) ≡ lost n → (accepted k (eventNext s e) s .reference ≡ none) × (accepted k (eventNext s e) s .line ≡ fresh)
+    go zero a = of-event e a
+    go (suc k) a = let z : _≡_ {A = ℕ} 0 1 = cc in absurd (omega arith)
+
+-- (c) the place after a list of calls is the start's and the intervals of the accepted calls
+pub place-after : (s : Receiver) (es : List Event) → after s es .place .0 ≡ s .place .0 + heardIntervals (heard s es)
+place-after s [] = omega arith
+place-after s (e ∷ es) =
+    place-after (next s e) es ∙ ap (λ (n : ℕ). n + heardIntervals (heard (next s e) es)) (next-placed s e)
+    ∙ unfold placeAfter in (one (refusal s e) (s .place .0) (record { event = e; answered = answer s e }) (heard (next s e) es))
+  where
+    one : (n p : ℕ) (x : Heard) (xs : List Heard)
+        → accepted n (p + intervals (x .event)) p + heardIntervals xs ≡ p + heardIntervals (accepted n (x ∷ xs) xs)
+    one zero p x xs = omega arith
+    one (suc n) p x xs = refl
+
+-- (d) mode and role stay
+abbrev pub Same : Receiver → Receiver → Type 0
+Same s t = (t .mode ≡ s .mode) × (t .role ≡ s .role)
+
+pub same-next : (s : Receiver) (e : Event) → Same s (next s e)
+unfolding next pointNext eventNext stateNext forgotten
+same-next s e = go (refusal s e) e
+  where
+    of-point : (d : Decision) → Same s (pointNext s d)
+    of-point (State y) = (refl, refl)
+    of-point Origin = (refl, refl)
+    of-point NoSector = (refl, refl)
+
+    go : (n : ℕ) (e : Event) → Same s (accepted n (eventNext s e) s)
+    go zero (point p) = of-point (decide (s .mode) p)
+    go zero (gap k) = (refl, refl)
+    go (suc n) e = (refl, refl)
+
+pub same-after : (s : Receiver) (es : List Event) → Same s (after s es)
+same-after s [] = (refl, refl)
+same-after s (e ∷ es) =
+    let a = same-next s e in
+    let b = same-after (next s e) es in
+    (b .0 ∙ a .0, b .1 ∙ a .1)
