@@ -22,6 +22,9 @@ const FIRST_AT: usize = 6;
 
 pub const TOTAL_AT: usize = 8;
 
+// The mark that record 0 begins with.
+pub const MARK: [u8; 4] = *b"VSYM";
+
 // ---- records
 
 // Whether a point at byte `at` lies in range.
@@ -76,7 +79,7 @@ fn has_mark(r: &[u8]) -> bool
     requires { ⌜ length (now r) ≡ 32 ⌝ }
     ensures { λ b. ⌜ b ≡ hasMark (now (r .entry)) ⌝ }
 {
-    let mark = b"VSYM";
+    let mark = MARK;
     (r[0] == mark[0]) & (r[1] == mark[1]) & (r[2] == mark[2]) & (r[3] == mark[3])
 }
 

@@ -1,7 +1,7 @@
 -- Lists of appends to an accepted store: reading gives the events held at the start and those of the accepted appends. Assumes nothing.
 use mathlib.Core.Path.{_≡_, refl, sym, ap, _∙_, subst}
 use mathlib.Core.Bool.{Bool, true, false, cond}
-use mathlib.Core.List.{List, [], _∷_, _++_, append-assoc, append-nil}
+use mathlib.Core.List.{List, [], _∷_, _++_, map, append-assoc, append-nil}
 use Prim.Native.Nat.{ℕ, _+_}
 use native.Mathlib.Omega.{arith}
 use borrow.Author.Tests.{eqb-true, eqb-false}
@@ -11,6 +11,9 @@ use Rattle.octets.proofs.Tests.{by-test}
 use Rattle.store.specs.Layout.{Event, point, lost}
 use Rattle.store.specs.Store.{events, total, refusal}
 use Rattle.track.specs.Append.{pointResult, pointNumber, lostResult, lostNumber}
+use Rattle.line.specs.declared.Point.{Point}
+use Rattle.store.proofs.Sounds.{or-zero}
+use Rattle.track.specs.Points.{eachNumber, eachResult}
 use Rattle.track.specs.Calls.{callNumber, callResult, intervals, after, accepted}
 use Rattle.track.proofs.Appends.{Appended, lost-law}
 use Rattle.track.proofs.Answers.{lost-free, lost-done, lost-kept, point-done, point-kept}
@@ -46,3 +49,16 @@ calls-law s (e ∷ es) acc =
       long = r .long ∙ d .long;
     }))
     (λ t. rw (t, refused-law s e (eqb-false (callNumber s e) 0 t)) (calls-law s es acc))
+
+-- many points by one call: their events, in order
+pub points-law : (s : List ℕ) (ps : List Point) → refusal s ≡ 0 → eachNumber s ps ≡ 0 → Run s (eachResult s ps) (map point ps)
+points-law s [] acc e = record { accepted-yet = acc; events-are = sym (append-nil (events s)); long = refl }
+points-law s (p ∷ ps) acc e =
+    let z = or-zero (pointNumber s p) (eachNumber (pointResult s p) ps) e in
+    let d = append-law s (point p) (z .0) in
+    let r = points-law (pointResult s p) ps (d .accepted) (z .1) in
+    record {
+      accepted-yet = r .accepted-yet;
+      events-are = r .events-are ∙ ap (λ (x : List Event). x ++ map point ps) (d .events-are) ∙ append-assoc (events s) (point p ∷ []) (map point ps);
+      long = r .long ∙ d .long;
+    }

@@ -10,6 +10,7 @@ use octets::put_i16;
 use octets::put8;
 use octets::put16;
 use octets::put32;
+use store::MARK;
 use store::TOTAL_AT;
 use store::View;
 use store::inspect;
@@ -39,7 +40,7 @@ fn put_head(store: &mut [u8], mode: u8, role: u8)
     ensures { λ _. ⌜ now (store .exit) ≡ made (length (now (store .entry))) mode role ⌝ }
 {
     clear(store);
-    put_all(store, 0, b"VSYM");
+    put_all(store, 0, &MARK);
     put8(store, 4, mode);
     put8(store, 5, role);
 }
@@ -79,14 +80,14 @@ fn point_record(re: i16, im: i16) -> [u8; 32]
 {
     let a = pattern_of(re);
     let b = pattern_of(im);
-    let mut r = [0u8; 32];
-    r[2] = 1;
-    r[3] = 1;
-    r[4] = (a % 256) as u8;
-    r[5] = (a / 256 % 256) as u8;
-    r[6] = (b % 256) as u8;
-    r[7] = (b / 256 % 256) as u8;
-    r
+    let mut bytes = [0u8; 32];
+    bytes[2] = 1;
+    bytes[3] = 1;
+    bytes[4] = (a % 256) as u8;
+    bytes[5] = (a / 256 % 256) as u8;
+    bytes[6] = (b % 256) as u8;
+    bytes[7] = (b / 256 % 256) as u8;
+    bytes
 }
 
 // The new record `r` at index `new`, its link in the chain's last record, and the total.

@@ -1,0 +1,205 @@
+-- Sending groups: one turn of the point writer's loop, and what a lent part becomes. Assumes nothing.
+use Prim.Native.Nat.{ℕ, zero, suc, _+_, _*_, _-_, _^_, _/_, _%_, _<_, _≤_}
+use mathlib.Core.Path.{_≡_, refl, sym, _∙_, ap, ap₂, subst}
+use mathlib.Core.Bool.{Bool, true, false, _&&_}
+use mathlib.Core.List.{List, [], _∷_, _++_, append-nil}
+use native.Mathlib.Numerals.{add-one, sub-one, towards-suc}
+use native.Mathlib.Nat.{suc-mul, lt-irrefl, not-suc-le-zero, le-of-suc-le-suc, add-sub-cancel-left, two-pow-succ, pow-le-pow-right, zero-mul, zero-add}
+use native.Mathlib.Omega.{arith}
+use borrow.Rule.Slice.PartMut.{putMid, post-is}
+use borrow.Rule.Slice.PartAt.{part-to-end}
+use lib.Dec.{T, ltb, ltb→lt, lit<}
+use lib.IntN.{ℤ}
+use lib.ListN.{length, getD, take, drop, set, length-set, length-take, length-drop, drop-of-length-le}
+use lib.Seq.{drop-cons, drop-drop, drop-length, sets}
+use Rattle.line.specs.Table.{every}
+use Rattle.line.specs.Mode.{width}
+use Rattle.line.specs.Point.{sentPoint}
+use Rattle.line.proofs.TableLaws.{and-left, and-right, and-intro}
+use Rattle.scrambler.specs.Bits.{isBit, bits, value}
+use Rattle.scrambler.proofs.BitLaws.{bits-value}
+use Rattle.training.specs.declared.Coder.{Coder}
+use Rattle.training.specs.Coder.{coder, coding, numbers}
+use Rattle.sender.specs.declared.Sender.{Sender}
+use Rattle.sender.specs.Sender.{coderOf, senderOf, groups, grouped, afterGroup, afterGroups, sentStates, sendRefusal, sendAnswer, sendNumbers}
+use Rattle.sender.specs.declared.Sent.the-variants.{Refused, Ready}
+use Rattle.sender.proofs.RefusalLaws.{is-refused, is-accepted, DataOk, send-ok}
+
+-- BITS
+
+pub every-take : (f : ℕ → Bool) (n : ℕ) (xs : List ℕ) → T (every f xs) → T (every f (take n xs))
+every-take f zero xs t = tt
+every-take f (suc n) [] t = tt
+every-take f (suc n) (x ∷ xs) t =
+    and-intro (f x) (every f (take n xs)) (and-left (f x) (every f xs) t) (every-take f n xs (and-right (f x) (every f xs) t))
+
+pub every-drop : (f : ℕ → Bool) (n : ℕ) (xs : List ℕ) → T (every f xs) → T (every f (drop n xs))
+every-drop f zero xs t = t
+every-drop f (suc n) [] t = tt
+every-drop f (suc n) (x ∷ xs) t = every-drop f n xs (and-right (f x) (every f xs) t)
+
+pub bit-at : (xs : List ℕ) (i : ℕ) → T (every isBit xs) → i < length xs → getD xs i 0 < 2
+unfolding isBit
+bit-at [] i t h = absurd (not-suc-le-zero h)
+bit-at (x ∷ xs) zero t h = ltb→lt x 2 (and-left (ltb x 2) (every isBit xs) t)
+bit-at (x ∷ xs) (suc i) t h = bit-at xs i (and-right (ltb x 2) (every isBit xs) t) (le-of-suc-le-suc h)
+
+-- a group's number, bit by bit
+abbrev pub horner : ℕ → List ℕ → ℕ
+horner g [] = g
+horner g (b ∷ bs) = horner (2 * g + b) bs
+
+horner-value : (g : ℕ) (bs : List ℕ) → horner g bs ≡ g * 2 ^ length bs + value bs
+horner-value g [] = omega arith
+horner-value g (b ∷ bs) =
+    horner-value (2 * g + b) bs
+    ∙ (let p : ℕ = 2 ^ length bs in
+    let e : (2 * g + b) * p + value bs ≡ g * 2 ^ suc (length bs) + (b * p + value bs) = omega (arith, ap (λ (n : ℕ). g * n) (two-pow-succ (length bs))) in e)
+
+pub horner-all : (bs : List ℕ) → horner 0 bs ≡ value bs
+horner-all bs = horner-value 0 bs ∙ ap (λ (n : ℕ). n + value bs) (zero-mul (2 ^ length bs)) ∙ zero-add (value bs)
+
+pub horner-step : (g : ℕ) (xs : List ℕ) (i : ℕ) → i < length xs → horner g (drop i xs) ≡ horner (2 * g + getD xs i 0) (drop (i + 1) xs)
+horner-step g xs i h = rw (add-one, drop-cons xs i 0)
+
+pub horner-end : (g : ℕ) (xs : List ℕ) (i : ℕ) → length xs ≤ i → horner g (drop i xs) ≡ g
+horner-end g xs i h = rw (drop-of-length-le xs h)
+
+-- so far it is below 2^i, and after the next bit it still fits
+pub record Fits8 (xs : List ℕ) (i g : ℕ) : Type 0 where
+  pub doubled : 2 * g < 256
+  pub next : 2 * g + getD xs i 0 < 256
+  pub below : 2 * g + getD xs i 0 < 2 ^ (i + 1)
+
+pub horner-fits : (xs : List ℕ) (i g : ℕ) → length xs ≤ 4 → T (every isBit xs) → i < length xs → g < 2 ^ i → Fits8 xs i g
+horner-fits xs i g l t h k =
+    let l₄ : i ≤ 4 = omega arith in
+    let p : 2 ^ i ≤ 2 ^ 4 = pow-le-pow-right (lit< tt) l₄ in
+    let b : getD xs i 0 < 2 = bit-at xs i t h in
+    record { doubled = omega arith; next = omega arith; below = rw add-one (omega (arith, two-pow-succ i)) }
+
+-- A GROUP
+
+pub group-law : (s : Sender) (d : Coder) (g : List ℕ) → d ≡ coding (s .mode) (s .role) (coderOf s) g
+    → _≡_ {A = Sender} (record { mode = s .mode; role = s .role; reference = d .reference; line = d .line }) (afterGroup s g)
+unfolding afterGroup
+group-law s d g e = ap (senderOf (s .mode) (s .role)) e
+
+pub group-mode : (s : Sender) (g : List ℕ) → afterGroup s g .mode ≡ s .mode
+unfolding afterGroup
+group-mode s g = refl
+
+-- the bits of the number of a group that is whole
+pub whole-bits : (w at n : ℕ) (ds : List ℕ) → T (every isBit ds) → at + w ≤ length ds → n ≡ value (take (at + w - at) (drop at ds)) → bits w n ≡ take (at + w - at) (drop at ds)
+whole-bits w at n ds t h e =
+    let g : List ℕ = take (at + w - at) (drop at ds) in
+    let l : w ≡ length g = sym (rw (length-take, length-drop) (omega arith)) in
+    ap₂ bits l e ∙ bits-value g (every-take isBit (at + w - at) (drop at ds) (every-drop isBit at ds t))
+
+-- a group of a writer is short, and its bytes are bits
+pub group-bits : (w at : ℕ) (ds : List ℕ) → w ≤ 4 → T (every isBit ds) → (length (take (at + w - at) (drop at ds)) ≤ 4) × T (every isBit (take (at + w - at) (drop at ds)))
+group-bits w at ds h t =
+    (rw length-take (omega arith), every-take isBit (at + w - at) (drop at ds) (every-drop isBit at ds t))
+
+-- one group less to send
+pub less : (n w : ℕ) → 0 < n → n * w ≡ w + (n - 1) * w
+less zero w h = absurd (lt-irrefl 0 h)
+less (suc n) w h = rw sub-one (omega (arith, suc-mul n w))
+
+groups-step : (w at n : ℕ) (ds : List ℕ) → 0 < n → groups w n (drop at ds) ≡ take (at + w - at) (drop at ds) ∷ groups w (n - 1) (drop (at + w) ds)
+groups-step w at zero ds h = absurd (lt-irrefl 0 h)
+groups-step w at (suc n) ds h = simp (add-sub-cancel-left, ← drop-drop, sub-one)
+
+-- the numbers of a point, and the rest
+pub point-step : (m s : ℕ) (ss : List ℕ) (out : List ℤ) (k : ℕ) (re im : ℤ) → re ≡ sentPoint m s .re → im ≡ sentPoint m s .im
+    → sets out k (numbers m (s ∷ ss)) ≡ sets (set (set out k re) (k + 1) im) (k + 2) (numbers m ss)
+point-step m s ss out k re im e f = rw (e, f) (simp towards-suc)
+
+-- what is left to send and to write, of n groups from t₀ on
+pub record Left (m w : ℕ) (ds : List ℕ) (t₀ : Sender) (n : ℕ) (out₀ : List ℤ) (t : Sender) (out : List ℤ) (at k left : ℕ) : Type 0 where
+  pub mode : t .mode ≡ m
+  pub bits-left : at + left * w ≤ length ds
+  pub room-left : k + 2 * left ≤ length out
+  pub same-length : length out ≡ length out₀
+  pub sender : afterGroups t (groups w left (drop at ds)) ≡ afterGroups t₀ (groups w n ds)
+  pub written : sets out k (numbers m (sentStates t (groups w left (drop at ds)))) ≡ sets out₀ 0 (numbers m (sentStates t₀ (groups w n ds)))
+
+pub left-all : (m w : ℕ) (ds : List ℕ) (t : Sender) (n : ℕ) (out : List ℤ) → t .mode ≡ m → n * w ≤ length ds → 2 * n ≤ length out → Left m w ds t n out t out 0 0 n
+left-all m w ds t n out e h k =
+    record { mode = e; bits-left = omega arith; room-left = omega arith; same-length = refl; sender = refl; written = refl }
+
+module _ (m w : ℕ) (ds : List ℕ) (t₀ : Sender) (n : ℕ) (out₀ : List ℤ) (t : Sender) (out : List ℤ) (at k left : ℕ) (i : Left m w ds t₀ n out₀ t out at k left) where
+  pub group-there : 0 < left → at + w ≤ length ds
+  group-there h = let b = i .bits-left in omega (arith, less left w h)
+
+  pub left-less : (u : Sender) (v : ℕ) (re im : ℤ) → 0 < left → T (every isBit ds) → w ≡ width m → v ≡ value (take (at + w - at) (drop at ds))
+      → u ≡ afterGroup t (bits (width (t .mode)) v) → re ≡ sentPoint m (u .reference) .re → im ≡ sentPoint m (u .reference) .im
+      → Left m w ds t₀ n out₀ u (set (set out k re) (k + 1) im) (at + w) (k + 2) (left - 1)
+  left-less u v re im h b ew ev eu er ei =
+      let g : List ℕ = take (at + w - at) (drop at ds) in
+      let z : bits (width (t .mode)) v ≡ g = ap (λ (x : ℕ). bits x v) (ap width (i .mode) ∙ sym ew) ∙ whole-bits w at v ds b (group-there h) ev in
+      let y : u ≡ afterGroup t g = eu ∙ ap (afterGroup t) z in
+      let rest : List (List ℕ) = groups w (left - 1) (drop (at + w) ds) in
+      let s = groups-step w at left ds h in
+      record {
+        mode = ap (λ (x : Sender). x .mode) y ∙ group-mode t g ∙ i .mode;
+        bits-left = let q = i .bits-left in omega (arith, less left w h);
+        room-left = simp length-set (let q = i .room-left in omega arith);
+        same-length = simp length-set (i .same-length);
+        sender = ap (λ (x : Sender). afterGroups x rest) y ∙ sym (ap (afterGroups t) s) ∙ i .sender;
+        written = sym (point-step m (u .reference) (sentStates u rest) out k re im er ei)
+            ∙ ap (λ (x : Sender). sets out k (numbers m (x .reference ∷ sentStates x rest))) y
+            ∙ sym (ap (λ (gs : List (List ℕ)). sets out k (numbers m (sentStates t gs))) s) ∙ i .written;
+      }
+
+  none-left : left ≡ 0 → groups w left (drop at ds) ≡ []
+  none-left e = ap (λ (x : ℕ). groups w x (drop at ds)) e
+
+  pub sent-all : left ≡ 0 → t ≡ afterGroups t₀ (groups w n ds)
+  sent-all e = sym (ap (afterGroups t) (none-left e)) ∙ i .sender
+
+  pub wrote-all : left ≡ 0 → out ≡ sets out₀ 0 (numbers m (sentStates t₀ (groups w n ds)))
+  wrote-all e = sym (ap (λ (gs : List (List ℕ)). sets out k (numbers m (sentStates t gs))) (none-left e)) ∙ i .written
+
+-- A LENT PART
+
+sets-cons : {X : Type 0} (x : X) (l : List X) (i : ℕ) (vs : List X) → sets (x ∷ l) (suc i) vs ≡ x ∷ sets l i vs
+sets-cons x l i [] = refl
+sets-cons x l i (v ∷ vs) = sets-cons x (set l i v) (suc i) vs
+
+sets-drop : {X : Type 0} (l : List X) (a : ℕ) (vs : List X) → a ≤ length l → take a l ++ sets (drop a l) 0 vs ≡ sets l a vs
+sets-drop l zero vs h = refl
+sets-drop [] (suc a) vs h = absurd (not-suc-le-zero h)
+sets-drop (x ∷ l) (suc a) vs h = rw (sets-drop l a vs (le-of-suc-le-suc h), sets-cons)
+
+-- what is written from the front of a part is written in the whole from there on
+pub sets-part : {X : Type 0} (l : List X) (a : ℕ) (vs : List X) → a ≤ length l
+    → putMid a (length l - a) l (sets (take (length l - a) (drop a l)) 0 vs) ≡ sets l a vs
+sets-part l a vs h = rw (part-to-end l a, post-is a (length l) l h, drop-length l, append-nil (sets (drop a l) 0 vs)) (sets-drop l a vs h)
+
+pub part-length : {X : Type 0} (l : List X) (a : ℕ) → length (take (length l - a) (drop a l)) ≡ length l - a
+part-length l a = rw (part-to-end l a, length-drop)
+
+-- WHAT SENDING ANSWERS AND WRITES
+
+module _ (s : Sender) (ds : List ℕ) (out : List ℤ) (off r : ℕ) (e : r ≡ sendRefusal s ds (length out) off) where
+  pub send-refused : (r ≡ 0 → ⊥) → (Refused r ≡ sendAnswer s ds (length out) off) × (out ≡ sendNumbers s ds out off)
+  unfolding sendAnswer sendNumbers
+  send-refused f = (ap Refused e ∙ is-refused r _ _ _ e f, is-refused r _ _ _ e f)
+
+  pub send-accepted : r ≡ 0 → DataOk (s .mode) ds (length out) off
+  send-accepted f = send-ok s ds (length out) off (sym e ∙ f) .1
+
+  pub send-room : r ≡ 0 → T (every isBit ds) × (2 * (length ds / width (s .mode)) ≤ length (take (length out - off) (drop off out)))
+  send-room f = let z = send-accepted f .room in (send-accepted f .are-bits, rw (part-length out off) (omega arith))
+
+  pub sent-law : (t : Sender) (xs : List ℤ) → r ≡ 0 → t ≡ afterGroups s (grouped (width (s .mode)) ds)
+      → xs ≡ sets (take (length out - off) (drop off out)) 0 (numbers (s .mode) (sentStates s (grouped (width (s .mode)) ds)))
+      → (Ready t ≡ sendAnswer s ds (length out) off) × (putMid off (length out - off) out xs ≡ sendNumbers s ds out off)
+  unfolding sendAnswer sendNumbers
+  sent-law t xs f et ex =
+      let z = send-accepted f .room in (
+        is-accepted r _ _ _ _ e f (ap Ready et),
+        is-accepted r _ _ _ _ e f
+            (ap (putMid off (length out - off) out) ex ∙ sets-part out off (numbers (s .mode) (sentStates s (grouped (width (s .mode)) ds))) (omega arith)),
+      )

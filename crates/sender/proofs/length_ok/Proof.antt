@@ -1,0 +1,17 @@
+use Rattle.sender.specs.Open.{lengthOk}
+use Rattle.line.proofs.Tests.{tests}
+use Rattle.sender.proofs.length_ok.Statement.{statement}
+use Rattle.sender.proofs.length_ok.Tie as tie
+use Rattle.sender.proofs.length_ok.Reads as reads
+use Rattle.sender.proofs.length_ok.Lts as lts
+
+returns : tie.Need-returns
+unfolding lengthOk
+returns c = search tests
+
+returns-2 : tie.Need-returns-2
+unfolding lengthOk
+returns-2 c = search tests
+
+pub length-ok-spec : {M : Type 1} → statement M
+length-ok-spec = tie.close (tie.spec returns returns-2)

@@ -1,0 +1,77 @@
+-- Document 01, "Sender": sending data bits; "Refusals" 1, 2, 4, 5, 6 and 7 of a sending call.
+use Prim.Native.Nat.{ℕ, zero, suc, _+_, _*_, _/_, _%_}
+use mathlib.Core.Bool.{Bool, _&&_}
+use mathlib.Core.List.{List, [], _∷_}
+use lib.Dec.{leb, eqb}
+use lib.IntN.{ℤ}
+use lib.ListN.{length, take, drop}
+use lib.Seq.{sets}
+use Rattle.line.specs.Table.{every}
+use Rattle.line.specs.Mode.{isMode, isRole, isState, width, regLen}
+use Rattle.line.specs.Refusal.{need, orNext, accepted}
+use Rattle.scrambler.specs.Bits.{isBit}
+use Rattle.scrambler.specs.Register.{registerOk}
+use Rattle.training.specs.declared.Coder.{Coder}
+use Rattle.training.specs.Coder.{coder, coding, numbers}
+use Rattle.sender.specs.declared.Sender.{Sender}
+use Rattle.sender.specs.declared.Sent.{Sent}
+use Rattle.sender.specs.declared.Sent.the-variants.{Refused, Ready}
+
+-- what sending changes of a sender
+abbrev pub coderOf : Sender → Coder
+coderOf s = coder (s .reference) (s .line)
+
+abbrev pub senderOf : ℕ → ℕ → Coder → Sender
+senderOf m role c = record { mode = m; role = role; reference = c .reference; line = c .line }
+
+-- number 4: "reference not a state of the mode, more than R line bits, in a sender fewer than R"
+unfoldable pub fieldsOk : Sender → Bool
+fieldsOk s = isState (s .mode) (s .reference) && (eqb (s .line .held .0) (regLen (s .mode)) && registerOk (s .mode) (s .line))
+
+-- the numbers about a handed-in state
+unfoldable pub stateRefusal : Sender → ℕ
+stateRefusal s = need (isMode (s .mode)) 1 (need (isRole (s .mode) (s .role)) 2 (need (fieldsOk s) 4 0))
+
+-- number 7: "lent numbers too few from the offset, or an offset past their end"
+unfoldable pub hasRoom : ℕ → ℕ → ℕ → Bool
+hasRoom points lent offset = leb (offset + 2 * points) lent
+
+-- the numbers about the data bits and the lent numbers
+unfoldable pub dataRefusal : ℕ → List ℕ → ℕ → ℕ → ℕ
+dataRefusal m ds lent offset =
+    need (every isBit ds) 5 (need (eqb (length ds % width m) 0) 6 (need (hasRoom (length ds / width m) lent offset) 7 0))
+
+unfoldable pub sendRefusal : Sender → List ℕ → ℕ → ℕ → ℕ
+sendRefusal s ds lent offset = orNext (stateRefusal s) (dataRefusal (s .mode) ds lent offset)
+
+-- "data bits are .. taken w at a time": n groups of w, and all of them
+abbrev pub groups : ℕ → ℕ → List ℕ → List (List ℕ)
+groups w zero ds = []
+groups w (suc n) ds = take w ds ∷ groups w n (drop w ds)
+
+unfoldable pub grouped : ℕ → List ℕ → List (List ℕ)
+grouped w ds = groups w (length ds / w) ds
+
+-- the sender after one group: its point is that of the new reference
+unfoldable pub afterGroup : Sender → List ℕ → Sender
+afterGroup s g = senderOf (s .mode) (s .role) (coding (s .mode) (s .role) (coderOf s) g)
+
+abbrev pub afterGroups : Sender → List (List ℕ) → Sender
+afterGroups s [] = s
+afterGroups s (g ∷ gs) = afterGroups (afterGroup s g) gs
+
+-- the states that are sent
+abbrev pub sentStates : Sender → List (List ℕ) → List ℕ
+sentStates s [] = []
+sentStates s (g ∷ gs) = afterGroup s g .reference ∷ sentStates (afterGroup s g) gs
+
+-- the answer: the refusal's number alone, or the next state
+unfoldable pub sendAnswer : Sender → List ℕ → ℕ → ℕ → Sent
+sendAnswer s ds lent offset =
+    let n : ℕ = sendRefusal s ds lent offset in
+    accepted n (Ready (afterGroups s (grouped (width (s .mode)) ds))) (Refused n)
+
+-- the lent numbers at exit: the points "from a given offset on, all others unchanged"
+unfoldable pub sendNumbers : Sender → List ℕ → List ℤ → ℕ → List ℤ
+sendNumbers s ds out offset =
+    accepted (sendRefusal s ds (length out) offset) (sets out offset (numbers (s .mode) (sentStates s (grouped (width (s .mode)) ds)))) out

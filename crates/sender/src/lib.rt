@@ -1,0 +1,255 @@
+// The sender: opening writes training, sending writes the points of data bits. Document 01, "Sender".
+ghost use mathlib.Core.Path.{_≡_};
+ghost use mathlib.Core.List.{List};
+ghost use Prim.Native.Nat.{ℕ, _*_, _/_, _≤_, _<_};
+ghost use lib.Dec.{T};
+ghost use lib.ListN.{length as size};
+ghost use lib.Seq.{sets};
+ghost use Rattle.line.specs.Table.{every};
+ghost use Rattle.line.specs.Mode.{width};
+ghost use Rattle.scrambler.specs.Bits.{isBit, bits, value};
+ghost use Rattle.training.specs.Coder.{numbers};
+ghost use Rattle.training.specs.Training.{train, start, intervals, trained};
+ghost use Rattle.sender.specs.Sender.{fieldsOk, stateRefusal, hasRoom, dataRefusal, sendRefusal, grouped, afterGroup, afterGroups, sentStates, sendAnswer, sendNumbers};
+ghost use Rattle.sender.specs.Open.{lengthOk, openRefusal, trainingNumbers, openAnswer, openNumbers};
+
+// What a sending call needs and hands on.
+pub struct Sender {
+    pub mode: u8,
+    pub role: u8,
+    pub reference: u8,
+    pub line: scrambler::Register,
+}
+
+// A refusal's number alone, or the next state.
+pub enum Sent {
+    Refused(u8),
+    Ready(Sender),
+}
+
+// What number 4 asks: the reference is a state of the mode, and the register is full with no bits beyond it.
+fn fields_ok(s: Sender) -> bool
+    ensures { λ r. ⌜ r ≡ fieldsOk s ⌝ }
+{
+    let register = s.line;
+    let held = register.held;
+    if !line::state_ok(s.mode, s.reference) {
+        return false;
+    }
+    if held.0 != line::length_of(s.mode) {
+        return false;
+    }
+    scrambler::register_ok(s.mode, register)
+}
+
+// Numbers 1, 2 and 4, or 0.
+fn state_refusal(s: Sender) -> u8
+    ensures { λ r. ⌜ r ≡ stateRefusal s ⌝ }
+{
+    if !line::mode_ok(s.mode) {
+        return 1;
+    }
+    if !line::role_ok(s.mode, s.role) {
+        return 2;
+    }
+    if !fields_ok(s) {
+        return 4;
+    }
+    0
+}
+
+// Whether each byte is a bit.
+fn are_bits(input: &[u8]) -> bool
+    ensures { λ r. ⌜ r ≡ every isBit (now (input .entry)) ⌝ }
+{
+    let mut i = 0;
+    while i < input.len() {
+        if 1 < input[i] {
+            return false;
+        }
+        i += 1;
+    }
+    true
+}
+
+// Whether the points fit from the offset on.
+fn has_room(points: usize, len: usize, offset: usize) -> bool
+    ensures { λ r. ⌜ r ≡ hasRoom points len offset ⌝ }
+{
+    if len < offset {
+        return false;
+    }
+    points <= (len - offset) / 2
+}
+
+// Numbers 5, 6 and 7, or 0.
+fn data_refusal(mode: u8, input: &[u8], len: usize, offset: usize) -> u8
+    ensures { λ r. ⌜ r ≡ dataRefusal mode (now (input .entry)) len offset ⌝ }
+{
+    if !are_bits(input) {
+        return 5;
+    }
+    let w = line::width_of(mode) as usize;
+    if input.len() % w != 0 {
+        return 6;
+    }
+    if !has_room(input.len() / w, len, offset) {
+        return 7;
+    }
+    0
+}
+
+// The lowest number that applies to a sending call, or 0.
+fn send_refusal(s: Sender, input: &[u8], len: usize, offset: usize) -> u8
+    ensures { λ r. ⌜ r ≡ sendRefusal s (now (input .entry)) len offset ⌝ }
+{
+    let n = state_refusal(s);
+    if n != 0 {
+        return n;
+    }
+    data_refusal(s.mode, input, len, offset)
+}
+
+// The bits of a group as a number, the first highest.
+fn group_value(group: &[u8]) -> u8
+    requires { ⌜ (size (now group) ≤ 4) × T (every isBit (now group)) ⌝ }
+    ensures { λ r. ⌜ r ≡ value (now (group .entry)) ⌝ }
+{
+    let mut g = 0;
+    let mut i = 0;
+    while i < group.len() {
+        g = 2 * g + group[i];
+        i += 1;
+    }
+    g
+}
+
+// The sender after a group.
+fn send_group(s: Sender, plain: u8) -> Sender
+    ensures { λ r. ⌜ r ≡ afterGroup s (bits (width (s .mode)) plain) ⌝ }
+{
+    let register = s.line;
+    let c = training::Coder {
+        reference: s.reference,
+        line: register,
+    };
+    let d = training::code_group(s.mode, s.role, c, plain);
+    let line = d.line;
+    Sender {
+        mode: s.mode,
+        role: s.role,
+        reference: d.reference,
+        line,
+    }
+}
+
+// The point writer: the points of whole groups, from the front of `out`.
+fn write_points(s: Sender, input: &[u8], out: &mut [i16]) -> Sender
+    requires { ⌜ T (every isBit (now input)) × (2 * (size (now input) / width (s .mode)) ≤ size (now out)) ⌝ }
+    ensures { λ r. ⌜ (r ≡ afterGroups s (grouped (width (s .mode)) (now (input .entry))))
+        × (now (out .exit) ≡ sets (now (out .entry)) 0 (numbers (s .mode) (sentStates s (grouped (width (s .mode)) (now (input .entry)))))) ⌝ }
+{
+    let mode = s.mode;
+    let w = line::width_of(mode) as usize;
+    let mut t = s;
+    let mut at = 0;
+    let mut k = 0;
+    let mut left = input.len() / w;
+    while left > 0 {
+        let e = at + w;
+        t = send_group(t, group_value(&input[at..e]));
+        let p = line::sent_point(mode, t.reference);
+        let re = p.re;
+        let im = p.im;
+        out[k] = re;
+        out[k + 1] = im;
+        at = e;
+        k += 2;
+        left -= 1;
+    }
+    t
+}
+
+// Sends data bits, one in a byte: their points stand in `out` from `offset` on.
+pub fn send(s: Sender, input: &[u8], out: &mut [i16], offset: usize) -> Sent
+    ensures { λ r. ⌜ r ≡ sendAnswer s (now (input .entry)) (size (now (out .entry))) offset ⌝ }
+    ensures { λ r. ⌜ now (out .exit) ≡ sendNumbers s (now (input .entry)) (now (out .entry)) offset ⌝ }
+{
+    let n = send_refusal(s, input, out.len(), offset);
+    if n != 0 {
+        return Sent::Refused(n);
+    }
+    let t = write_points(s, input, &mut out[offset..]);
+    Sent::Ready(t)
+}
+
+// What number 3 asks.
+fn length_ok(mode: u8, length: u32) -> bool
+    ensures { λ r. ⌜ r ≡ lengthOk mode length ⌝ }
+{
+    if mode <= 2 {
+        length <= 1
+    } else {
+        (1280 <= length) & (length <= 8192)
+    }
+}
+
+// The lowest number that applies to opening, or 0.
+fn open_refusal(mode: u8, role: u8, length: u32, len: usize, offset: usize) -> u8
+    ensures { λ r. ⌜ r ≡ openRefusal mode role length len offset ⌝ }
+{
+    if !line::mode_ok(mode) {
+        return 1;
+    }
+    if !line::role_ok(mode, role) {
+        return 2;
+    }
+    if !length_ok(mode, length) {
+        return 3;
+    }
+    if !has_room(training::interval_count(mode, length), len, offset) {
+        return 7;
+    }
+    0
+}
+
+// The point writer of training, from the front of `out`.
+fn write_training(mode: u8, role: u8, length: u32, out: &mut [i16]) -> training::Coder
+    requires { ⌜ 2 * intervals mode length ≤ size (now out) ⌝ }
+    ensures { λ r. ⌜ (r ≡ trained (train mode role length) 0 (intervals mode length) (start mode))
+        × (now (out .exit) ≡ sets (now (out .entry)) 0 (trainingNumbers mode role length)) ⌝ }
+{
+    let t = training::middle_changes();
+    let n = training::interval_count(mode, length);
+    let mut c = training::training_start(mode);
+    let mut i = 0;
+    while i < n {
+        c = training::train_interval(mode, role, length, i, c, &t);
+        let p = line::sent_point(mode, c.reference);
+        let re = p.re;
+        let im = p.im;
+        out[2 * i] = re;
+        out[2 * i + 1] = im;
+        i += 1;
+    }
+    c
+}
+
+// Opens a sender: its training stands in `out` from `offset` on.
+pub fn open(mode: u8, role: u8, length: u32, out: &mut [i16], offset: usize) -> Sent
+    ensures { λ r. ⌜ r ≡ openAnswer mode role length (size (now (out .entry))) offset ⌝ }
+    ensures { λ r. ⌜ now (out .exit) ≡ openNumbers mode role length (now (out .entry)) offset ⌝ }
+{
+    let n = open_refusal(mode, role, length, out.len(), offset);
+    if n != 0 {
+        return Sent::Refused(n);
+    }
+    let c = write_training(mode, role, length, &mut out[offset..]);
+    let line = c.line;
+    Sent::Ready(Sender {
+        mode,
+        role,
+        reference: c.reference,
+        line,
+    })
+}

@@ -1,0 +1,211 @@
+-- The intervals of training: what the code computes of them, and that a coder that can send stays one. Assumes nothing.
+use Prim.Native.Nat.{ℕ, zero, suc, _+_, _*_, _-_, _/_, _%_, _<_, _≤_}
+use mathlib.Core.Path.{_≡_, refl, sym, _∙_, ap, ap₂, subst}
+use mathlib.Core.Bool.{Bool, true, false, cond}
+use mathlib.Core.List.{List, [], _∷_}
+use native.Mathlib.Omega.{arith}
+use native.Mathlib.Decide.{decLt, decLe}
+use borrow.Author.Tests.{lt-ltb, le-ltb}
+use lib.Dec.{T, ltb, eqb}
+use lib.ListN.{length, getD, replicate, length-replicate}
+use Rattle.line.specs.Table.{every, below}
+use Rattle.line.specs.Mode.{byMode, isMode, isState, states, width, regLen}
+use Rattle.line.proofs.ByMode.{mode-short, mode-long}
+use Rattle.line.proofs.ModeLaws.{mode-cases}
+use Rattle.line.proofs.TableLaws.{every-at, below-at}
+use Rattle.scrambler.specs.declared.Register.{Register}
+use Rattle.scrambler.specs.declared.Scrambled.{Scrambled}
+use Rattle.scrambler.specs.Bits.{bits, value}
+use Rattle.scrambler.specs.Register.{register, nearTap, pushes}
+use Rattle.scrambler.specs.Scramble.{scramble}
+use Rattle.scrambler.specs.Group.{scrambled}
+use Rattle.scrambler.proofs.BitLaws.{bits-value, value-small}
+use Rattle.scrambler.proofs.RegisterLaws.{Ok}
+use Rattle.scrambler.proofs.WindowLaws.{mix-small}
+use Rattle.scrambler.proofs.GroupLaws.{length-scramble, bits-scramble}
+use Rattle.training.specs.declared.Coder.{Coder}
+use Rattle.training.specs.Coder.{coder, coding}
+use Rattle.training.specs.Training.{reversals, changes, three, middle, train27, A, B, C, D, dibitState, train32, train, start, intervals, trained}
+use Rattle.training.proofs.CoderLaws.{same-coder, scramble-same, pushes-same, Ready, ready-pushes, ready-coding}
+
+-- HOW MANY
+
+pub intervals-short : (m n a b : ℕ) → m ≤ 2 → a ≡ reversals n → b ≡ changes n → a + b + 8 ≡ intervals m n
+unfolding intervals
+intervals-short m n a b h e f = ap₂ (λ (x y : ℕ). x + y + 8) e f ∙ sym (mode-short (reversals n + changes n + 8) (272 + n) m h)
+
+pub intervals-long : (m n : ℕ) → 2 < m → 272 + n ≡ intervals m n
+unfolding intervals
+intervals-long m n h = sym (mode-long (reversals n + changes n + 8) (272 + n) m h)
+
+-- WHICH SEGMENT
+
+pub segment-1 : (a b i : ℕ) (x y z : Coder) → i < a → cond (ltb i a) x (cond (ltb i b) y z) ≡ x
+segment-1 a b i x y z h = ap (λ (t : Bool). cond t x (cond (ltb i b) y z)) (lt-ltb i a h)
+
+pub segment-2 : (a b i : ℕ) (x y z : Coder) → a ≤ i → i < b → cond (ltb i a) x (cond (ltb i b) y z) ≡ y
+segment-2 a b i x y z h k = ap₂ (λ (t u : Bool). cond t x (cond u y z)) (le-ltb i a h) (lt-ltb i b k)
+
+pub segment-3 : (a b i : ℕ) (x y z : Coder) → a ≤ i → b ≤ i → cond (ltb i a) x (cond (ltb i b) y z) ≡ z
+segment-3 a b i x y z h k = ap₂ (λ (t u : Bool). cond t x (cond u y z)) (le-ltb i a h) (le-ltb i b k)
+
+-- V.32
+
+-- by the two values of a bit
+two : (P : ℕ → Type 0) → P 0 → P 1 → (b : ℕ) → b < 2 → P b
+two P p q zero h = p
+two P p q (suc zero) h = q
+two P p q (suc (suc b)) h = absurd (omega arith)
+
+pub dibit-first : (i d : ℕ) → d < 4 → i < 528 → d / 2 * 12 + 1 ≡ dibitState i (bits 2 d)
+unfolding dibitState
+dibit-first i d h k =
+    rw (lt-ltb i 528 k)
+    (two (λ (b : ℕ). d / 2 ≡ b → d / 2 * 12 + 1 ≡ getD (A ∷ C ∷ []) (d / 2 % 2) A)
+    (λ e. rw e) (λ e. rw e) (d / 2) (omega arith) refl)
+
+pub dibit-later : (i d : ℕ) → d < 4 → 528 ≤ i → 4 * d + 1 ≡ dibitState i (bits 2 d)
+unfolding dibitState
+dibit-later i d h k = rw (le-ltb i 528 k) (four d h)
+  where
+    four : (d : ℕ) → d < 4 → 4 * d + 1 ≡ getD (A ∷ B ∷ D ∷ C ∷ []) (value (bits 2 d)) A
+    four zero h = refl
+    four (suc zero) h = refl
+    four (suc (suc zero)) h = refl
+    four (suc (suc (suc zero))) h = refl
+    four (suc (suc (suc (suc d)))) h = absurd (omega arith)
+
+pub dibit-small : (role : ℕ) (h : Register) (s : Scrambled) → s ≡ scrambled 3 role h 3 → s .line < 4
+unfolding scrambled width
+dibit-small role h s e =
+    subst (λ (x : ℕ). x < 4) (sym (ap (λ (x : Scrambled). x .line) e))
+    (value-small (scramble 3 role h (bits 2 3)) (bits-scramble 3 role h (bits 2 3)))
+
+module _ (m role i : ℕ) (c : Coder) where
+  pub first-32 : i < 256 → _≡_ {A = Coder} (record { reference = 1 + i % 2 * 4; line = c .line }) (train32 m role i c)
+  unfolding train32
+  first-32 h =
+      same-coder (two (λ (b : ℕ). 1 + b * 4 ≡ getD (A ∷ B ∷ []) b A) refl refl (i % 2) (omega arith)) refl
+      ∙ sym (segment-1 256 272 i _ _ _ h)
+
+  pub second-32 : 256 ≤ i → i < 272 → _≡_ {A = Coder} (record { reference = 13 - i % 2 * 4; line = c .line }) (train32 m role i c)
+  unfolding train32
+  second-32 h k =
+      same-coder (two (λ (b : ℕ). 13 - b * 4 ≡ getD (C ∷ D ∷ []) b C) refl refl (i % 2) (omega arith)) refl
+      ∙ sym (segment-2 256 272 i _ _ _ h k)
+
+  -- modes 3 and 4 have one scrambler
+  pub ones-32 : (s : Scrambled) → 2 < m → s ≡ scrambled 3 role (c .line) 3
+      → (s .line ≡ value (scramble m role (c .line) (replicate 2 1))) × (s .next ≡ pushes m (c .line) (scramble m role (c .line) (replicate 2 1)))
+  unfolding scrambled width nearTap regLen
+  ones-32 s h e =
+      let a : nearTap m role ≡ nearTap 3 role = mode-long 6 (getD (18 ∷ 5 ∷ []) role 5) m h in
+      let r : regLen m ≡ regLen 3 = mode-long 7 23 m h in
+      let l = scramble-same m 3 role role a r (c .line) (replicate 2 1) in (
+        ap (λ (x : Scrambled). x .line) e ∙ ap value (sym l),
+        ap (λ (x : Scrambled). x .next) e ∙ sym (pushes-same m 3 role role a r (c .line) (scramble m role (c .line) (replicate 2 1)) ∙ ap (pushes 3 (c .line)) l),
+      )
+
+  pub third-32 : (s : Scrambled) (r : ℕ) → 2 < m → 256 ≤ i → 272 ≤ i → s ≡ scrambled 3 role (c .line) 3 → r ≡ dibitState i (bits 2 (s .line))
+      → _≡_ {A = Coder} (record { reference = r; line = s .next }) (train32 m role i c)
+  unfolding train32
+  third-32 s r g h k e f =
+      let z = ones-32 s g e in
+      let l : List ℕ = scramble m role (c .line) (replicate 2 1) in
+      let n : 2 ≡ length l = sym (length-scramble m role (c .line) (replicate 2 1)) in
+      let b : bits 2 (s .line) ≡ l = ap₂ bits n (z .0) ∙ bits-value l (bits-scramble m role (c .line) (replicate 2 1)) in
+      same-coder (f ∙ ap (dibitState i) b) (z .1) ∙ sym (segment-3 256 272 i _ _ _ h k)
+
+-- A CODER THAT CAN SEND
+
+-- a V.27 ter state turned by 180° or not is one of the mode
+half-states : (m r b : ℕ) → T (isMode m) → m ≤ 2 → T (isState m r) → b < 2 → T (isState m ((r + 4 * b) % 8))
+unfolding isState
+half-states m r b hm h =
+    mode-cases (λ (n : ℕ). n ≤ 2 → T (isState n r) → b < 2 → T (isState n ((r + 4 * b) % 8)))
+    (λ l. turned 1 (unfold states isState in tt)) (λ l. turned 2 (unfold states isState in tt)) (λ l. absurd (omega arith)) (λ l. absurd (omega arith)) m hm h
+  where
+    turned : (n : ℕ) → T (every (λ x. every (λ k. isState n ((x + 4 * k) % 8)) (below 2)) (states n)) → T (isState n r) → b < 2 → T (isState n ((r + 4 * b) % 8))
+    turned n t p q = below-at (λ k. isState n ((r + 4 * k) % 8)) 2 (every-at (λ x. every (λ k. isState n ((x + 4 * k) % 8)) (below 2)) (states n) r t p) b q
+
+-- A, B, C and D are states of both modes
+abcd-states : (m d : ℕ) → T (isMode m) → 2 < m → d < 4 → T (isState m (4 * d + 1))
+abcd-states m d hm h =
+    mode-cases (λ (n : ℕ). 2 < n → d < 4 → T (isState n (4 * d + 1)))
+    (λ l. absurd (omega arith)) (λ l. absurd (omega arith))
+    (λ l. below-at (λ k. isState 3 (4 * k + 1)) 4 (unfold states isState in tt) d) (λ l. below-at (λ k. isState 4 (4 * k + 1)) 4 (unfold states isState in tt) d) m hm h
+
+-- another state, and the same register
+moved : (m r : ℕ) (c : Coder) → Ready m c → T (isState m r) → Ready m (coder r (c .line))
+moved m r c k t = record { state = t; full = k .full; fit = k .fit }
+
+first-bit : (m role : ℕ) (h : Register) (n : ℕ) → getD (scramble m role h (replicate (suc n) 1)) 0 0 < 2
+first-bit m role h n = mix-small m role h 1
+
+module _ (m role i : ℕ) (c : Coder) (hm : T (isMode m)) (k : Ready m c) where
+  ready-27 : (n : ℕ) → m ≤ 2 → Ready m (train27 m role n i c)
+  unfolding train27 middle
+  ready-27 n h = go (decLt i (reversals n)) (decLt i (reversals n + changes n))
+    where
+      go : Dec (i < reversals n) → Dec (i < reversals n + changes n) → Ready m (train27 m role n i c)
+      go (yes a) b = subst (Ready m) (sym (segment-1 _ _ i _ _ _ a)) (moved m _ c k (half-states m (c .reference) 1 hm h (k .state) (omega arith)))
+      go (no a) (yes b) =
+          subst (Ready m) (sym (segment-2 _ _ i _ _ _ (omega (arith, a)) b))
+          (ready-pushes m role _ c three k (half-states m (c .reference) _ hm h (k .state) (first-bit m role (c .line) 2)))
+      go (no a) (no b) =
+          subst (Ready m) (sym (segment-3 _ _ i _ _ _ (omega (arith, a)) (omega (arith, b))))
+          (ready-coding m role c (replicate (width m) 1) hm k (length-replicate (width m) 1))
+
+  dibit-is : (d : ℕ) → d < 4 → 2 < m → T (isState m (dibitState i (bits 2 d)))
+  dibit-is d l h = go (decLt i 528)
+    where
+      go : Dec (i < 528) → T (isState m (dibitState i (bits 2 d)))
+      go (yes a) =
+          subst (λ (x : ℕ). T (isState m x)) ((let e : 4 * (d / 2 * 3) + 1 ≡ d / 2 * 12 + 1 = omega arith in e) ∙ dibit-first i d l a)
+          (abcd-states m (d / 2 * 3) hm h (omega arith))
+      go (no a) = subst (λ (x : ℕ). T (isState m x)) (dibit-later i d l (omega (arith, a))) (abcd-states m d hm h l)
+
+  ready-32 : 2 < m → Ready m (train32 m role i c)
+  unfolding train32
+  ready-32 h = go (decLt i 256) (decLt i 272)
+    where
+      go : Dec (i < 256) → Dec (i < 272) → Ready m (train32 m role i c)
+      go (yes a) b =
+          subst (Ready m) (first-32 m role i c a)
+          (moved m _ c k (subst (λ (x : ℕ). T (isState m x)) (let e : 4 * (i % 2) + 1 ≡ 1 + i % 2 * 4 = omega arith in e) (abcd-states m (i % 2) hm h (omega arith))))
+      go (no a) (yes b) =
+          subst (Ready m) (second-32 m role i c (omega (arith, a)) b)
+          (moved m _ c k (subst (λ (x : ℕ). T (isState m x)) (let e : 4 * (3 - i % 2) + 1 ≡ 13 - i % 2 * 4 = omega arith in e) (abcd-states m (3 - i % 2) hm h (omega arith))))
+      go (no a) (no b) =
+          let ones : List ℕ = replicate 2 1 in
+          let bs = bits-scramble m role (c .line) ones in
+          let e : bits 2 (value (scramble m role (c .line) ones)) ≡ scramble m role (c .line) ones = bits-value (scramble m role (c .line) ones) bs in
+          subst (Ready m) (sym (segment-3 256 272 i _ _ _ (omega (arith, a)) (omega (arith, b))))
+          (ready-pushes m role _ c ones k
+          (subst (λ (x : List ℕ). T (isState m (dibitState i x))) e (dibit-is (value (scramble m role (c .line) ones)) (value-small (scramble m role (c .line) ones) bs) h)))
+
+  ready-train : (n : ℕ) → Ready m (train m role n i c)
+  unfolding train
+  ready-train n = go (decLe m 2)
+    where
+      go : Dec (m ≤ 2) → Ready m (train m role n i c)
+      go (yes h) = subst (Ready m) (sym (mode-short _ _ m h)) (ready-27 n h)
+      go (no h) = subst (Ready m) (sym (mode-long _ _ m (omega (arith, h)))) (ready-32 (omega (arith, h)))
+
+ready-start : (m : ℕ) → T (isMode m) → Ready m (start m)
+unfolding start states isState regLen
+ready-start =
+    mode-cases (λ (m : ℕ). Ready m (start m))
+    (ready 1 _ tt refl (record { small = omega arith; most = omega arith })) (ready 2 _ tt refl (record { small = omega arith; most = omega arith }))
+    (ready 3 _ tt refl (record { small = omega arith; most = omega arith })) (ready 4 _ tt refl (record { small = omega arith; most = omega arith }))
+  where
+    ready : (m : ℕ) (c : Coder) → T (isState m (c .reference)) → c .line .held .0 ≡ regLen m → Ok m (c .line) → Ready m c
+    ready m c s f o = record { state = s; full = f; fit = o }
+
+ready-intervals : (m role n : ℕ) → T (isMode m) → (i k : ℕ) (c : Coder) → Ready m c → Ready m (trained (train m role n) i k c)
+ready-intervals m role n hm i zero c r = r
+ready-intervals m role n hm i (suc k) c r = ready-intervals m role n hm (suc i) k (train m role n i c) (ready-train m role i c hm r n)
+
+-- what training leaves can send, for all modes, roles and lengths
+pub ready-trained : (m role n : ℕ) → T (isMode m) → Ready m (trained (train m role n) 0 (intervals m n) (start m))
+ready-trained m role n hm = ready-intervals m role n hm 0 (intervals m n) (start m) (ready-start m hm)

@@ -1,0 +1,17 @@
+use Rattle.training.specs.Training.{reversals}
+use Rattle.line.proofs.Tests.{tests}
+use Rattle.training.proofs.reversal_count.Statement.{statement}
+use Rattle.training.proofs.reversal_count.Tie as tie
+use Rattle.training.proofs.reversal_count.Reads as reads
+use Rattle.training.proofs.reversal_count.Lts as lts
+
+returns : tie.Need-returns
+unfolding reversals
+returns c = search tests
+
+returns-2 : tie.Need-returns-2
+unfolding reversals
+returns-2 c = search tests
+
+pub reversal-count-spec : {M : Type 1} → statement M
+reversal-count-spec = tie.close (tie.spec returns returns-2)

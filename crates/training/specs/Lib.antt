@@ -1,0 +1,4 @@
+pub mod Coder
+pub mod Training
+pub mod Ahead
+pub mod Bench
