@@ -1,2 +1,4 @@
 pub mod RowLaws
 pub mod ReceivedLaws
+pub mod HandedLaws
+pub mod DemandProof

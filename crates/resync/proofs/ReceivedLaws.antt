@@ -48,13 +48,16 @@ answer-even s e = of-accepted (refusal s e) (of-event e)
     of-state : (o : Reference) (y : ℕ) → Even (stateAnswer s o y)
     of-state none y = unfold stateAnswer in refl
     of-state (some x) y = unfold stateAnswer in (length-descramble (s .mode) (s .role) (s .line) (lineBits (s .mode) x y))
+
     of-point : (d : Decision) → Even (pointAnswer s d)
     of-point (State y) = unfold pointAnswer in (of-state (s .reference) y)
     of-point Origin = unfold pointAnswer in refl
     of-point NoSector = unfold pointAnswer in refl
+
     of-event : (e : Event) → Even (eventAnswer s e)
     of-event (point p) = unfold eventAnswer in (of-point (decide (s .mode) p))
     of-event (gap n) = unfold eventAnswer in refl
+
     of-accepted : (n : ℕ) → Even (eventAnswer s e) → Even (accepted n (eventAnswer s e) (refused n))
     of-accepted zero h = h
     of-accepted (suc n) h = refl
@@ -80,7 +83,7 @@ data-sized w (x ∷ xs) a b = (a .0 ∙ b .0, data-sized w xs (a .1) (b .1))
 
 -- ASSURED DATA BITS
 
-enough : (m : ℕ) → T (isMode m) → (2 ≤ assuredPoint m) × (regLen m ≤ (assuredPoint m - 2) * width m)
+pub enough : (m : ℕ) → T (isMode m) → (2 ≤ assuredPoint m) × (regLen m ≤ (assuredPoint m - 2) * width m)
 enough =
     mode-cases (λ m. (2 ≤ assuredPoint m) × (regLen m ≤ (assuredPoint m - 2) * width m)) (unfold assuredPoint regLen width in (omega arith))
     (unfold assuredPoint regLen width in (omega arith)) (unfold assuredPoint regLen width in (omega arith)) (unfold assuredPoint regLen width in (omega arith))
@@ -115,10 +118,11 @@ lines-iff m role [] (y ∷ ys) j k l = absurd (omega arith)
 lines-iff m role (x ∷ xs) [] j k l = absurd (omega arith)
 lines-iff m role (x ∷ xs) (y ∷ ys) j k l =
     let n : length (decidedStates m (x ∷ xs)) ≡ length (decidedStates m (y ∷ ys)) =
-      length-map (x ∷ xs) (λ (z : Heard). decidedAs m (z .event)) ∙ l ∙ sym (length-map (y ∷ ys) (λ (z : Heard). decidedAs m (z .event))) in
-    (λ e. lines→turned m (j .0) (decidedStates m (x ∷ xs)) (decidedStates m (y ∷ ys)) (all-states m role x xs j) (all-states m role y ys k) n
-      (sym (j .2 .2 .lines-are) ∙ e ∙ k .2 .2 .lines-are),
-     λ t. j .2 .2 .lines-are ∙ turned→lines m (j .0) (decidedStates m (x ∷ xs)) (decidedStates m (y ∷ ys)) (all-states m role x xs j) t ∙ sym (k .2 .2 .lines-are))
+    length-map (x ∷ xs) (λ (z : Heard). decidedAs m (z .event)) ∙ l ∙ sym (length-map (y ∷ ys) (λ (z : Heard). decidedAs m (z .event))) in (
+      λ e. lines→turned m (j .0) (decidedStates m (x ∷ xs)) (decidedStates m (y ∷ ys)) (all-states m role x xs j) (all-states m role y ys k) n
+          (sym (j .2 .2 .lines-are) ∙ e ∙ k .2 .2 .lines-are),
+      λ t. j .2 .2 .lines-are ∙ turned→lines m (j .0) (decidedStates m (x ∷ xs)) (decidedStates m (y ∷ ys)) (all-states m role x xs j) t ∙ sym (k .2 .2 .lines-are),
+    )
 
 pub turned-data : (m role : ℕ) (A B : List Heard) → Received m role A → Received m role B → length A ≡ length B
     → Turned m (decidedStates m A) (decidedStates m B) → dataFrom (assuredPoint m) A ≡ dataFrom (assuredPoint m) B
@@ -127,7 +131,7 @@ turned-data m role [] (y ∷ ys) j k l t = absurd (omega arith)
 turned-data m role (x ∷ xs) [] j k l t = absurd (omega arith)
 turned-data m role (x ∷ xs) (y ∷ ys) j k l t =
     let e : lines m (decidedAs m (x .event)) (decidedStates m xs) ≡ lines m (decidedAs m (y .event)) (decidedStates m ys) =
-      turned→lines m (j .shape .0) (decidedStates m (x ∷ xs)) (decidedStates m (y ∷ ys)) (all-states m role x xs (j .shape)) t in
+    turned→lines m (j .shape .0) (decidedStates m (x ∷ xs)) (decidedStates m (y ∷ ys)) (all-states m role x xs (j .shape)) t in
     let h : Register = register 0 0 in
     data-any m role x xs j h ∙ ap (λ (g : List (List ℕ)). drop ((assuredPoint m - 2) * width m) (descramble m role h (row g))) e
     ∙ sym (data-any m role y ys k h)

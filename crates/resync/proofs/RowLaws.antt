@@ -43,8 +43,10 @@ forget m role n h h′ bs r = go (decLe n (length bs))
         ap (λ (cs : List ℕ). drop n (descramble m role k cs)) (sym (take-append-drop n bs))
         ∙ ap (drop n) (descramble-append m role k (take n bs) (drop n bs))
         ∙ drop-at (descramble m role k (take n bs)) (descramble m role (pushes m k (take n bs)) (drop n bs)) n (length-descramble m role k (take n bs) ∙ l)
+
     none : (k : Register) → length bs ≤ n → drop n (descramble m role k bs) ≡ []
     none k p = drop-of-length-le (descramble m role k bs) {i = n} (let e = length-descramble m role k bs in omega arith)
+
     go : Dec (n ≤ length bs) → drop n (descramble m role h bs) ≡ drop n (descramble m role h′ bs)
     go (yes p) =
         let l : length (take n bs) ≡ n = rw length-take (omega arith) in

@@ -1,1 +1,3 @@
 pub mod Assured
+pub mod DataPoints
+pub mod Demand

@@ -1,3 +1,6 @@
 pub mod RefusalLaws
 pub mod SendLaws
 pub mod OpenLaws
+pub mod StateLaws
+pub mod JoinLaws
+pub mod DataLaws

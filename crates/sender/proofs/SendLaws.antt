@@ -89,6 +89,10 @@ pub group-mode : (s : Sender) (g : List ℕ) → afterGroup s g .mode ≡ s .mod
 unfolding afterGroup
 group-mode s g = refl
 
+pub group-role : (s : Sender) (g : List ℕ) → afterGroup s g .role ≡ s .role
+unfolding afterGroup
+group-role s g = refl
+
 -- the bits of the number of a group that is whole
 pub whole-bits : (w at n : ℕ) (ds : List ℕ) → T (every isBit ds) → at + w ≤ length ds → n ≡ value (take (at + w - at) (drop at ds)) → bits w n ≡ take (at + w - at) (drop at ds)
 whole-bits w at n ds t h e =

@@ -1,2 +1,3 @@
 pub mod Sender
 pub mod Open
+pub mod Calls

@@ -1,0 +1,185 @@
+-- Data points as they are handed on, and the bits that a receiver reads of them. Assumes nothing.
+use Prim.Native.Nat.{ℕ, zero, suc, _+_, _*_, _-_, _<_, _≤_}
+use mathlib.Core.Path.{_≡_, refl, sym, _∙_, ap, ap₂, subst, subst₂}
+use mathlib.Core.Bool.{Bool, true, false, cond}
+use mathlib.Core.List.{List, [], _∷_, _++_, map, map-append, append-assoc}
+use mathlib.Core.Logic.{⊎-elim}
+use native.Mathlib.Omega.{arith}
+use borrow.Author.Tests.{eq-eqb}
+use lib.Dec.{T, eqb, leb, leb→le}
+use lib.IntN.{ℤ, pos}
+use lib.ListN.{length, getD, take, drop, length-map, length-append}
+use lib.Seq.{sets, drop-at, take-at, drop-nil}
+use Rattle.line.proofs.RefusalLaws.{need-met, need-rest}
+use Rattle.line.specs.declared.Decision.{Decision}
+use Rattle.line.specs.declared.Decision.the-variants.{State, Origin, NoSector}
+use Rattle.line.specs.declared.Point.{Point}
+use Rattle.line.specs.Mode.{width, regLen, face}
+use Rattle.line.specs.Point.{at}
+use Rattle.line.specs.Decide.{decide}
+use Rattle.line.specs.Code.{group}
+use Rattle.scrambler.specs.declared.Register.{Register}
+use Rattle.scrambler.specs.Bits.{bits}
+use Rattle.scrambler.specs.Scramble.{Datum, settled, descramble}
+use Rattle.receiver.specs.Receiver.{Event, point, gap}
+use Rattle.receiver.specs.Calls.{Heard, All, decidedAs, stateIn, decidedStates, row}
+use Rattle.receiver.specs.Turn.{lines}
+use Rattle.sender.specs.declared.Sender.{Sender}
+use Rattle.sender.specs.Calls.{DataPoint}
+use Rattle.sender.specs.Sender.{afterGroup}
+use Rattle.sender.proofs.SendLaws.{group-mode}
+use Rattle.sender.proofs.DataLaws.{Made, From, consecutive, stateOf, statesOf, lineBits, given, Reads, from-reads}
+use Rattle.store.specs.Layout as Stored
+use Rattle.octets.proofs.Sets.{getD-sets-in}
+use Rattle.store.specs.Store.{orElse, events, refusal}
+use Rattle.store.specs.Reading.{numbers, readNumber, readCount, readResult}
+use Rattle.track.specs.Calls.{after, accepted}
+use Rattle.track.proofs.CallLaws.{Run, calls-law}
+use Rattle.resync.specs.Assured.{assuredPoint, dataFrom}
+use Rattle.resync.specs.DataPoints.{Consecutive, received, appended, eventIn, eventsIn, ReadBack, Handed, givenFrom}
+use Rattle.resync.specs.Demand as Demand
+use Rattle.resync.proofs.RowLaws.{drop-row, map-drop}
+use Rattle.resync.proofs.ReceivedLaws.{Received, data-any, enough}
+
+-- READ BACK AS WRITTEN
+
+-- an event of a store as one of a receiver
+abbrev onLine : Stored.Event → Event
+onLine (Stored.point p) = point p
+onLine (Stored.lost n) = gap n
+
+numbers-long : (es : List Stored.Event) → length (numbers es) ≡ 3 * length es
+numbers-long [] = refl
+numbers-long (Stored.point p ∷ es) = let h = numbers-long es in omega arith
+numbers-long (Stored.lost n ∷ es) = let h = numbers-long es in omega arith
+
+-- numbers that stand in others from a place on
+abbrev Stands : List ℤ → ℕ → List ℤ → Type 0
+Stands ns k vs = (j : ℕ) → j < length vs → getD ns (k + j) (pos 0) ≡ getD vs j (pos 0)
+
+stands-written : (out vs : List ℤ) (k : ℕ) → k + length vs ≤ length out → Stands (sets out k vs) k vs
+stands-written out vs k h j l = getD-sets-in vs out k j (pos 0) l (omega arith)
+
+module _ (ns : List ℤ) (k : ℕ) (a b c : ℤ) (vs : List ℤ) (s : Stands ns k (a ∷ b ∷ c ∷ vs)) where
+  -- the next three numbers
+  three-in : eventIn (getD ns k (pos 0)) (getD ns (k + 1) (pos 0)) (getD ns (k + 2) (pos 0)) ≡ eventIn a b c
+  three-in =
+      let x : getD ns k (pos 0) ≡ a = ap (λ (i : ℕ). getD ns i (pos 0)) (let e : k ≡ k + 0 = omega arith in e) ∙ s 0 (omega arith) in
+      ap₂ (λ (u v : ℤ). eventIn u v (getD ns (k + 2) (pos 0))) x (s 1 (omega arith)) ∙ ap (eventIn a b) (s 2 (omega arith))
+
+  three-on : Stands ns (k + 3) vs
+  three-on j l = ap (λ (i : ℕ). getD ns i (pos 0)) (let e : k + 3 + j ≡ k + suc (suc (suc j)) = omega arith in e) ∙ s (suc (suc (suc j))) (omega arith)
+
+-- events that were written are read
+events-read : (ns : List ℤ) (k : ℕ) (es : List Stored.Event) → Stands ns k (numbers es) → eventsIn ns k (length es) ≡ map onLine es
+unfolding eventIn
+events-read ns k [] s = refl
+events-read ns k (Stored.point p ∷ es) s =
+    ap₂ _∷_ (three-in ns k (pos 1) (p .re) (p .im) (numbers es) s) (events-read ns (k + 3) es (three-on ns k (pos 1) (p .re) (p .im) (numbers es) s))
+events-read ns k (Stored.lost n ∷ es) s =
+    ap₂ _∷_ (three-in ns k (pos 2) (pos n) (pos 0) (numbers es) s) (events-read ns (k + 3) es (three-on ns k (pos 2) (pos n) (pos 0) (numbers es) s))
+
+or-rest : (a b : ℕ) → orElse a b ≡ 0 → b ≡ 0
+or-rest zero b e = e
+or-rest (suc a) b e = absurd (omega arith)
+
+-- what an accepted reading gives is the store's events
+reading-gives : (s : List ℕ) (lent : List ℤ) (offset : ℕ) → refusal s ≡ 0 → readNumber s (length lent) offset ≡ 0
+    → eventsIn (readResult s lent offset) offset (readCount s (length lent) offset) ≡ map onLine (events s)
+unfolding readResult readCount
+reading-gives s lent offset ok z =
+    rw (eq-eqb (readNumber s (length lent) offset) 0 z)
+    (events-read (sets lent offset (numbers (events s))) offset (events s)
+    (stands-written lent (numbers (events s)) offset (let l = numbers-long (events s) in let r = room z in omega arith)))
+  where
+    room : readNumber s (length lent) offset ≡ 0 → offset + 3 * length (events s) ≤ length lent
+    room z =
+        unfold readNumber in
+        (let y = need-rest (leb offset (length lent)) 6 _ z in
+        leb→le _ _ (need-met (leb (offset + 3 * length (events s)) (length lent)) 6 0 (or-rest (refusal s) _ y)))
+
+on-line-points : (ds : List DataPoint) → map onLine (appended ds) ≡ received ds
+on-line-points [] = refl
+on-line-points (d ∷ ds) = ap (λ (es : List Event). point (d .point) ∷ es) (on-line-points ds)
+
+-- "handed on as read" is "handed on as written"
+pub handed-as-written : (ds : List DataPoint) (es : List Event) → Handed ds es → es ≡ received ds
+handed-as-written ds es = ⊎-elim (λ e. e) back
+  where
+    back : ReadBack ds es → es ≡ received ds
+    back r =
+        let run : Run (r .store) (after (r .store) (r .appends)) (accepted (r .store) (r .appends)) = calls-law (r .store) (r .appends) (r .store-accepted) in
+        let s : List ℕ = after (r .store) (r .appends) in
+        let front : List Stored.Event = events (r .store) ++ r .earlier in
+        let all : events s ≡ front ++ (appended ds ++ r .later) =
+        run .events-are ∙ ap (λ (l : List Stored.Event). events (r .store) ++ l) (r .in-order) ∙ sym (append-assoc (events (r .store)) (r .earlier) (appended ds ++ r .later)) in
+        let read : eventsIn (readResult s (r .lent) (r .offset)) (r .offset) (readCount s (length (r .lent)) (r .offset)) ≡ map onLine front ++ (map onLine (appended ds) ++ map onLine (r .later)) =
+        reading-gives s (r .lent) (r .offset) (run .accepted-yet) (r .read-accepted) ∙ ap (map onLine) all
+        ∙ map-append onLine front (appended ds ++ r .later) ∙ ap (λ (l : List Event). map onLine front ++ l) (map-append onLine (appended ds) (r .later)) in
+        let n : length (map onLine front) ≡ length (events (r .store)) + length (r .earlier) = length-map front onLine ∙ length-append (events (r .store)) (r .earlier) in
+        let k : length (map onLine (appended ds)) ≡ length ds = length-map (appended ds) onLine ∙ length-map ds (λ (d : DataPoint). Stored.point (d .point)) in
+        r .handed-on
+        ∙ ap (λ (l : List Event). take (length ds) (drop (length (events (r .store)) + length (r .earlier)) l)) read
+        ∙ ap (take (length ds)) (drop-at (map onLine front) (map onLine (appended ds) ++ map onLine (r .later)) _ n)
+        ∙ take-at (map onLine (appended ds)) (map onLine (r .later)) (length ds) k
+        ∙ on-line-points ds
+
+-- THE BITS THAT WERE GIVEN
+
+from-sender : (m role : ℕ) (ds : List DataPoint) → Consecutive m role ds → From m role ds
+from-sender m role ds c =
+    subst₂ (λ (n r : ℕ). From n r ds) (c .mode-is) (c .role-is) (consecutive (c .sender) (c .calls) (c .earlier) ds (c .later) (c .are))
+
+-- each was made from w bits
+made-sized : (m : ℕ) (s : Sender) (ds : List DataPoint) → s .mode ≡ m → Made s ds → All (λ (g : List ℕ). length g ≡ width m) (map (λ (d : DataPoint). d .bits) ds)
+made-sized m s [] e k = tt
+made-sized m s (d ∷ ds) e k = (k .1 ∙ ap width e, made-sized m (afterGroup s (d .bits)) ds (group-mode s (d .bits) ∙ e) (k .4))
+
+given-row : (ds : List DataPoint) → given ds ≡ row (map (λ (d : DataPoint). d .bits) ds)
+given-row [] = refl
+given-row (d ∷ ds) = ap (λ (l : List ℕ). d .bits ++ l) (given-row ds)
+
+drop-map : {A B : Type 0} (f : A → B) (n : ℕ) (xs : List A) → drop n (map f xs) ≡ map f (drop n xs)
+drop-map f n xs = sym (map-drop f n xs)
+
+-- the decided states of the points that were handed on
+state-same : (d : Decision) → stateIn d ≡ stateOf d
+state-same (State s) = refl
+state-same Origin = refl
+state-same NoSector = refl
+
+states-same : (m : ℕ) (xs : List Heard) (ds : List DataPoint) → Demand.events xs ≡ received ds → decidedStates m xs ≡ statesOf m ds
+states-same m [] [] e = refl
+states-same m [] (d ∷ ds) e = absurd (omega (arith, ap length e))
+states-same m (x ∷ xs) [] e = absurd (omega (arith, ap length e))
+states-same m (x ∷ xs) (d ∷ ds) e =
+    let e0 : x .event ≡ point (d .point) = cc in
+    let e1 : Demand.events xs ≡ received ds = cc in
+    ap₂ _∷_ (ap (decidedAs m) e0 ∙ state-same (decide m (d .point))) (states-same m xs ds e1)
+
+row-lines : (m x : ℕ) (ys : List ℕ) → row (lines m x ys) ≡ lineBits m x ys
+row-lines m x [] = refl
+row-lines m x (y ∷ ys) = ap (λ (l : List ℕ). bits (width m) (group m (face m x) y) ++ l) (row-lines m y ys)
+
+pub sender-data : (m role : ℕ) (xs : List Heard) (ds : List DataPoint) → Received m role xs → Consecutive m role ds → Demand.events xs ≡ received ds
+    → dataFrom (assuredPoint m) xs ≡ map settled (givenFrom (assuredPoint m) ds)
+sender-data m role [] [] k c e = rw (drop-nil {A = Heard} (assuredPoint m - 1), drop-nil {A = DataPoint} (assuredPoint m - 1))
+sender-data m role [] (d ∷ ds) k c e = absurd (omega (arith, ap length e))
+sender-data m role (x ∷ xs) [] k c e = absurd (omega (arith, ap length e))
+sender-data m role (x ∷ xs) (d ∷ ds) k c e =
+    let f : From m role (d ∷ ds) = from-sender m role (d ∷ ds) c in
+    let r : Reads m role d ds = from-reads m role d ds f in
+    let p : ℕ = assuredPoint m in
+    let q = enough m (k .shape .0) in
+    let e0 : x .event ≡ point (d .point) = cc in
+    let e1 : Demand.events xs ≡ received ds = cc in
+    let g : row (lines m (decidedAs m (x .event)) (decidedStates m xs)) ≡ lineBits m (stateOf (decide m (d .point))) (statesOf m ds) =
+    row-lines m (decidedAs m (x .event)) (decidedStates m xs) ∙ ap₂ (lineBits m) (ap (decidedAs m) e0 ∙ state-same (decide m (d .point))) (states-same m xs ds e1) in
+    let z : All (λ (h : List ℕ). length h ≡ width m) (map (λ (t : DataPoint). t .bits) ds) = made-sized m (f .sender) (d ∷ ds) (f .mode) (f .made-by) .1 in
+    data-any m role x xs k (r .line)
+    ∙ ap (λ (l : List ℕ). drop ((p - 2) * width m) (descramble m role (r .line) l)) g
+    ∙ ap (drop ((p - 2) * width m)) (r .reads)
+    ∙ drop-map settled ((p - 2) * width m) (given ds)
+    ∙ ap (λ (l : List ℕ). map settled (drop ((p - 2) * width m) l)) (given-row ds)
+    ∙ ap (map settled) (drop-row (width m) (p - 2) (map (λ (t : DataPoint). t .bits) ds) z ∙ ap row (drop-map (λ (t : DataPoint). t .bits) (p - 2) ds))
+    ∙ ap (λ (n : ℕ). map settled (row (map (λ (t : DataPoint). t .bits) (drop n (d ∷ ds))))) (let w : suc (p - 2) ≡ p - 1 = omega arith in w)
