@@ -1,8 +1,8 @@
 -- What holds after every call and every list of calls: numbers 1, 2 and 4 stay met, mode and role stay, a gap forgets, and the place
 -- counts the intervals of the accepted calls. Assumes nothing.
 use Prim.Native.Nat.{ℕ, zero, suc, _+_}
-use mathlib.Core.Path.{_≡_, refl, sym, _∙_, ap, ap₂, subst}
-use mathlib.Core.Bool.{Bool, true, false, _&&_, not}
+use mathlib.Core.Path.{_≡_, refl, _∙_, ap}
+use mathlib.Core.Bool.{Bool, true, false}
 use mathlib.Core.List.{List, [], _∷_}
 use native.Mathlib.Omega.{arith}
 use lib.Dec.{T, eqb, eqb→eq}
@@ -14,7 +14,7 @@ use Rattle.line.specs.Mode.{isMode, isRole, isState, width, face}
 use Rattle.line.specs.Point.{isOrigin}
 use Rattle.line.specs.Decide.{decide}
 use Rattle.line.specs.Code.{group}
-use Rattle.line.specs.Refusal.{need, orNext, accepted}
+use Rattle.line.specs.Refusal.{orNext, accepted}
 use Rattle.line.proofs.RefusalLaws.{need-met, need-rest, need-intro, next-first, next-rest}
 use Rattle.line.proofs.TableLaws.{and-left, and-right, and-intro}
 use Rattle.scrambler.specs.declared.Register.{Register}
@@ -24,10 +24,10 @@ use Rattle.scrambler.proofs.RegisterLaws.{Ok, ok, passes, ok-pushes}
 use Rattle.receiver.specs.declared.Reference.{Reference}
 use Rattle.receiver.specs.declared.Reference.the-variants.{Nothing as none, State as some}
 use Rattle.receiver.specs.declared.Receiver.{Receiver}
-use Rattle.receiver.specs.Receiver.{receiver, freshReceiver, Event, point, gap, isFresh, fieldsOk, freshRefusal, stateRefusal, inSector, eventRefusal, refusal, Answer, refused, reference, decoded, lost, lineBits, stateAnswer, pointAnswer, eventAnswer, answer, intervals, placeAfter, forgotten, stateLine, stateNext, pointNext, eventNext, next}
+use Rattle.receiver.specs.Receiver.{freshReceiver, Event, point, gap, isFresh, fieldsOk, freshRefusal, stateRefusal, refusal, refused, reference, lost, lineBits, stateAnswer, pointAnswer, eventAnswer, answer, intervals, placeAfter, forgotten, stateLine, stateNext, pointNext, eventNext, next}
 use Rattle.receiver.specs.Calls.{after, Heard, heard, heardIntervals}
 use Rattle.line.proofs.DecideLaws.{Off, decide-off}
-use Rattle.receiver.proofs.OutcomeLaws.{in-sector, next-placed}
+use Rattle.receiver.proofs.OutcomeLaws.{next-placed}
 
 -- NUMBERS 1, 2 AND 4
 

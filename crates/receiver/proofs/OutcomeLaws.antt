@@ -1,13 +1,12 @@
 -- What the public functions hand back says the answer, place and state of the rules; and the ways that their code takes lead to it.
 -- Assumes nothing.
 use Prim.Native.Nat.{ℕ, zero, suc, _+_, _-_, _<_, _≤_}
-use mathlib.Core.Path.{_≡_, refl, sym, _∙_, ap, ap₂, subst}
+use mathlib.Core.Path.{_≡_, refl, sym, _∙_, ap, subst}
 use mathlib.Core.Bool.{Bool, true, false, _&&_, cond}
-use mathlib.Core.List.{List, [], _∷_}
+use mathlib.Core.List.{[], _∷_}
 use native.Mathlib.Omega.{arith}
 use borrow.Author.Tests.{le-leb, lt-leb}
-use lib.Dec.{T, eqb, leb}
-use lib.IntN.{ℤ}
+use lib.Dec.{T, eqb}
 use Rattle.line.specs.declared.Point.{Point}
 use Rattle.line.specs.declared.Decision.{Decision}
 use Rattle.line.specs.declared.Decision.the-variants.{State, Origin, NoSector}
@@ -30,8 +29,8 @@ use Rattle.receiver.specs.declared.Outcome.{Outcome}
 use Rattle.receiver.specs.declared.Outcome.the-variants.{Refused, Referenced, Bits, Gap}
 use Rattle.receiver.specs.declared.Started.{Started}
 use Rattle.receiver.specs.declared.Started.the-variants.{Refused as NotStarted, Ready}
-use Rattle.receiver.specs.Receiver.{receiver, freshReceiver, Event, point, gap, isFresh, fieldsOk, freshRefusal, stateRefusal, inSector, hasRoom, eventRefusal, refusal, Answer, refused, decoded, lineBits, stateAnswer, pointAnswer, eventAnswer, answer, intervals, placeAfter, forgotten, stateLine, stateNext, pointNext, eventNext, next}
-use Rattle.receiver.specs.Outcome.{answerOf, stateOf, Told, groupOf, stateOutcome, gapOutcome, pointOutcome, eventOutcome, outcome, ifRoom, numberOf, madeOf, Made, started}
+use Rattle.receiver.specs.Receiver.{receiver, freshReceiver, Event, point, gap, isFresh, fieldsOk, freshRefusal, stateRefusal, inSector, hasRoom, eventRefusal, refusal, refused, decoded, lineBits, stateAnswer, pointAnswer, eventAnswer, answer, intervals, placeAfter, forgotten, stateLine, stateNext, pointNext, eventNext, next}
+use Rattle.receiver.specs.Outcome.{answerOf, stateOf, Told, groupOf, stateOutcome, gapOutcome, pointOutcome, eventOutcome, outcome, ifRoom, Made, started}
 
 -- WHAT AN OUTCOME SAYS
 
@@ -106,7 +105,7 @@ module _ (s : Receiver) where
   unfolding outcome answer next
   told e =
       let l : stateOf s (outcome s e) ≡ next s e = left e (refusal s e) in
-      record { answered = answered e (refusal s e); placed = ap (λ (t : Receiver). t .place .0) l ∙ next-placed e; left = l }
+      record { answer-is = answered e (refusal s e); place-is = ap (λ (t : Receiver). t .place .0) l ∙ next-placed e; state-is = l }
 
   pub both : (e : Event) (r : Outcome) → r ≡ outcome s e → (r ≡ outcome s e) × Told s e r
   both e r q = (q, subst (Told s e) (sym q) (told e))
@@ -168,23 +167,22 @@ module _ (s : Receiver) (n : ℕ) (r : Outcome) where
   unfolding ifRoom hasRoom
   room-some b h = rw (le-leb (s .place .0 + n) 4294967295 (omega arith))
 
--- a gap's outcome from its parts
-pub lost-law : (s : Receiver) (n : ℕ) (h : Register) → s .place .0 ≤ 4294967295 → n ≤ 4294967295 - s .place .0 → h ≡ fresh
-    → Gap (record { 0 = n }) (receiver (s .mode) (s .role) none h (s .place .0 + n)) ≡ ifRoom s n (gapOutcome s n)
+-- the outcomes from their parts
+pub lost-law : (s : Receiver) (n : ℕ) (h : Register) (t : Receiver) → s .place .0 ≤ 4294967295 → n ≤ 4294967295 - s .place .0 → h ≡ fresh
+    → t ≡ receiver (s .mode) (s .role) none h (s .place .0 + n) → Gap (record { 0 = n }) t ≡ ifRoom s n (gapOutcome s n)
 unfolding forgotten
-lost-law s n h b k e =
-    ap (λ (t : Register). Gap (record { 0 = n }) (receiver (s .mode) (s .role) none t (s .place .0 + n))) e ∙ room-some s n (gapOutcome s n) b k
+lost-law s n h t b k e q = rw (q, e) (room-some s n (gapOutcome s n) b k)
 
-module _ (s : Receiver) (o : Reference) (y : ℕ) (b : s .place .0 ≤ 4294967295) (k : 1 ≤ 4294967295 - s .place .0) where
-  pub reference-law : o ≡ none → Referenced (receiver (s .mode) (s .role) (some y) (s .line) (s .place .0 + 1)) ≡ ifRoom s 1 (stateOutcome s o y)
+module _ (s : Receiver) (o : Reference) (y : ℕ) (t : Receiver) (b : s .place .0 ≤ 4294967295) (k : 1 ≤ 4294967295 - s .place .0) where
+  pub reference-law : o ≡ none → t ≡ receiver (s .mode) (s .role) (some y) (s .line) (s .place .0 + 1) → Referenced t ≡ ifRoom s 1 (stateOutcome s o y)
   unfolding stateOutcome stateNext stateLine
-  reference-law is = rw is (room-some s 1 _ b k)
+  reference-law is q = rw (q, is) (room-some s 1 _ b k)
 
   pub bits-law : (x g : ℕ) (d : Descrambled) → o ≡ some x → g ≡ group (s .mode) (face (s .mode) x) y → d ≡ descrambled (s .mode) (s .role) (s .line) g
-      → Bits (record { line = g; plain = d .plain; unsettled = d .unsettled }) (receiver (s .mode) (s .role) (some y) (d .next) (s .place .0 + 1))
-      ≡ ifRoom s 1 (stateOutcome s o y)
+      → t ≡ receiver (s .mode) (s .role) (some y) (d .next) (s .place .0 + 1)
+      → Bits (record { line = g; plain = d .plain; unsettled = d .unsettled }) t ≡ ifRoom s 1 (stateOutcome s o y)
   unfolding stateOutcome stateNext stateLine groupOf descrambled
-  bits-law x g d is e q = rw (q, e, is) (room-some s 1 _ b k)
+  bits-law x g d is e q r = rw (r, q, e, is) (room-some s 1 _ b k)
 
 -- a refused event, and an accepted one
 refused-by : (r : Outcome) (f n : ℕ) → f ≡ n → (f ≡ 0 → ⊥) → Refused f ≡ accepted n r (Refused n)

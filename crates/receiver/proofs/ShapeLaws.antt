@@ -1,10 +1,9 @@
 -- What a list gives whose accepted calls are points off the origin, whatever the state at its start. Assumes nothing.
 use Prim.Native.Nat.{ℕ, zero, suc, _+_}
-use mathlib.Core.Path.{_≡_, refl, sym, _∙_, ap, ap₂, subst}
-use mathlib.Core.Bool.{Bool, true, false, _&&_, not}
-use mathlib.Core.List.{List, [], _∷_, _++_, map}
+use mathlib.Core.Path.{_≡_, refl, sym, _∙_, ap, subst}
+use mathlib.Core.Bool.{Bool, true, false, not}
+use mathlib.Core.List.{List, [], _∷_, _++_}
 use lib.Dec.{T}
-use lib.ListN.{drop}
 use Rattle.line.specs.Table.{every}
 use Rattle.line.specs.declared.Point.{Point}
 use Rattle.line.specs.declared.Decision.{Decision}
@@ -20,11 +19,10 @@ use Rattle.scrambler.specs.Register.{pushes}
 use Rattle.scrambler.specs.Scramble.{Datum, descramble}
 use Rattle.scrambler.proofs.GroupLaws.{descramble-append}
 use Rattle.scrambler.proofs.RegisterLaws.{Ok}
-use Rattle.receiver.specs.declared.Reference.{Reference}
-use Rattle.receiver.specs.declared.Reference.the-variants.{Nothing as none, State as some}
+use Rattle.receiver.specs.declared.Reference.the-variants.{State as some}
 use Rattle.receiver.specs.declared.Receiver.{Receiver}
-use Rattle.receiver.specs.Receiver.{receiver, Event, point, gap, stateRefusal, inSector, refusal, Answer, refused, decoded, lineBits, stateAnswer, pointAnswer, eventAnswer, answer, stateLine, stateNext, pointNext, eventNext, next}
-use Rattle.receiver.specs.Calls.{after, Heard, heard, All, IsPoint, stateIn, decidedAs, lineOf, dataOf, decidedStates, linesHeard, row, dataHeard}
+use Rattle.receiver.specs.Receiver.{receiver, Event, point, gap, stateRefusal, inSector, refusal, refused, decoded, lineBits, stateAnswer, pointAnswer, eventAnswer, answer, stateLine, stateNext, pointNext, eventNext, next}
+use Rattle.receiver.specs.Calls.{Heard, heard, All, IsPoint, decidedAs, decidedStates, linesHeard, row, dataHeard}
 use Rattle.receiver.specs.Turn.{lines}
 use Rattle.line.proofs.DecideLaws.{Off}
 use Rattle.receiver.proofs.OutcomeLaws.{in-sector}

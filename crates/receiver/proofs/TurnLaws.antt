@@ -1,21 +1,20 @@
 -- The line bits from the second point on are equal exactly when the states are turned by one whole number of steps. Assumes nothing.
-use Prim.Native.Nat.{ℕ, zero, suc, _+_, _^_, _%_, _<_}
-use mathlib.Core.Path.{_≡_, refl, sym, _∙_, ap, subst}
-use mathlib.Core.Bool.{Bool, true, false, _&&_}
+use Prim.Native.Nat.{ℕ, zero, suc}
+use mathlib.Core.Path.{_≡_, refl, sym, _∙_, ap}
 use mathlib.Core.List.{List, [], _∷_, map}
 use native.Mathlib.Omega.{arith}
 use native.Mathlib.Nat.{mod-eq-of-lt}
 use lib.Dec.{T}
 use lib.ListN.{length}
 use Rattle.line.specs.Table.{every}
-use Rattle.line.specs.Mode.{isMode, width, face, turn, turns, isState}
+use Rattle.line.specs.Mode.{isMode, width, face, turns, isState}
 use Rattle.line.specs.Code.{group, coded}
 use Rattle.line.proofs.TableLaws.{and-left, and-right}
 use Rattle.line.proofs.ModeLaws.{OfPair, of-state}
 use Rattle.scrambler.specs.Bits.{bits, value}
 use Rattle.scrambler.proofs.BitLaws.{value-bits}
 use Rattle.receiver.specs.Receiver.{lineBits}
-use Rattle.receiver.specs.Turn.{lines, linesOf, TurnedBy, Turned}
+use Rattle.receiver.specs.Turn.{lines, linesOf, Turned}
 use Rattle.line.proofs.DecideLaws.{turns-state}
 
 module _ (m : ℕ) (hm : T (isMode m)) where

@@ -1,8 +1,8 @@
 -- Document 01, "Forms we want to see": "where an answer is an enum, a definition gives this paper's number and values for each of
 -- the enum's cases". What the public functions hand back, and what each case of it says.
-use Prim.Native.Nat.{ℕ, zero, suc, _+_}
+use Prim.Native.Nat.{ℕ}
 use mathlib.Core.Path.{_≡_}
-use mathlib.Core.Bool.{Bool, true, false, cond}
+use mathlib.Core.Bool.{cond}
 use mathlib.Core.List.{List, [], _∷_}
 use Rattle.line.specs.declared.Decision.{Decision}
 use Rattle.line.specs.declared.Decision.the-variants.{State, Origin, NoSector}
@@ -12,7 +12,6 @@ use Rattle.line.specs.Code.{group}
 use Rattle.line.specs.Refusal.{accepted}
 use Rattle.scrambler.specs.Bits.{bits}
 use Rattle.scrambler.specs.Group.{descrambled, marked}
-use Rattle.receiver.specs.declared.Intervals.{Intervals}
 use Rattle.receiver.specs.declared.Reference.{Reference}
 use Rattle.receiver.specs.declared.Reference.the-variants.{Nothing as none, State as some}
 use Rattle.receiver.specs.declared.Receiver.{Receiver}
@@ -39,11 +38,15 @@ stateOf s (Referenced t) = t
 stateOf s (Bits g t) = t
 stateOf s (Gap n t) = t
 
--- answer, place and state after an event, each one equation with the rules
+-- the place after the call, in unit intervals
+abbrev pub placeOf : Receiver → Outcome → ℕ
+placeOf s r = stateOf s r .place .0
+
+-- "answer, place and state after an event are each one equation with these rules"
 pub record Told (s : Receiver) (e : Event) (r : Outcome) : Type 0 where
-  pub answered : answerOf (width (s .mode)) r ≡ answer s e
-  pub placed : stateOf s r .place .0 ≡ placeAfter s e
-  pub left : stateOf s r ≡ next s e
+  pub answer-is : answerOf (width (s .mode)) r ≡ answer s e
+  pub place-is : placeOf s r ≡ placeAfter s e
+  pub state-is : stateOf s r ≡ next s e
 
 -- THE VALUE ITSELF
 

@@ -1,7 +1,7 @@
 -- Document 01, "Receiver" and "Refusals": a receiver's events, what it refuses, and the answer, place and state after an event.
-use Prim.Native.Nat.{ℕ, zero, suc, _+_}
+use Prim.Native.Nat.{ℕ, _+_}
 use mathlib.Core.Bool.{Bool, true, false, _&&_}
-use mathlib.Core.List.{List, [], _∷_}
+use mathlib.Core.List.{List}
 use lib.Dec.{eqb, leb}
 use Rattle.line.specs.declared.Point.{Point}
 use Rattle.line.specs.declared.Decision.{Decision}
@@ -15,7 +15,6 @@ use Rattle.scrambler.specs.declared.Register.{Register}
 use Rattle.scrambler.specs.Bits.{bits}
 use Rattle.scrambler.specs.Register.{fresh, pushes, registerOk}
 use Rattle.scrambler.specs.Scramble.{Datum, descramble}
-use Rattle.receiver.specs.declared.Intervals.{Intervals}
 use Rattle.receiver.specs.declared.Reference.{Reference}
 use Rattle.receiver.specs.declared.Reference.the-variants.{Nothing as none, State as some}
 use Rattle.receiver.specs.declared.Receiver.{Receiver}

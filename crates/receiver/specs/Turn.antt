@@ -1,5 +1,5 @@
 -- Document 01, "Modes, states, turns": the line bits of states in order, and lists of states that are turns of one another.
-use Prim.Native.Nat.{ℕ, zero, suc}
+use Prim.Native.Nat.{ℕ}
 use mathlib.Core.Path.{_≡_}
 use mathlib.Core.List.{List, [], _∷_, map}
 use Rattle.line.specs.Mode.{face, turns}

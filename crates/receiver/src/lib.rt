@@ -1,9 +1,8 @@
 // The receiver: its state, its answers, and the points and gaps that it takes. Document 01, "Receiver" and "Refusals".
 ghost use mathlib.Core.Path.{_≡_};
-ghost use Prim.Native.Nat.{ℕ};
 ghost use Rattle.line.specs.Point.{at};
-ghost use Rattle.receiver.specs.Receiver.{Event, point, gap, fieldsOk, freshRefusal, stateRefusal};
-ghost use Rattle.receiver.specs.Outcome.{Told, stateOutcome, pointOutcome, gapOutcome, outcome, ifRoom, Made, started};
+ghost use Rattle.receiver.specs.Receiver.{receiver, point, gap, fieldsOk, freshRefusal, stateRefusal};
+ghost use Rattle.receiver.specs.Outcome.{Told, stateOutcome, gapOutcome, outcome, ifRoom, Made, started};
 use scrambler::BitCount;
 use scrambler::Register;
 
@@ -104,7 +103,20 @@ fn state_fault(s: Receiver) -> u8
     }
 }
 
-// A gap of n intervals.
+// The state at a later place.
+fn moved(s: Receiver, reference: Reference, line: Register, place: u32) -> Receiver
+    ensures { λ r. ⌜ r ≡ receiver (s .mode) (s .role) reference line place ⌝ }
+{
+    Receiver {
+        mode: s.mode,
+        role: s.role,
+        reference,
+        line,
+        place: Intervals(place),
+    }
+}
+
+// A gap of n intervals: reference and line bits are forgotten.
 fn lose(s: Receiver, n: u32) -> Outcome
     ensures { λ r. ⌜ r ≡ ifRoom s n (gapOutcome s n) ⌝ }
 {
@@ -112,19 +124,12 @@ fn lose(s: Receiver, n: u32) -> Outcome
     if 4294967295 - place < n {
         return Outcome::Refused(16);
     }
-    Outcome::Gap(
-        Intervals(n),
-        Receiver {
-            mode: s.mode,
-            role: s.role,
-            reference: Reference::Nothing,
-            line: scrambler::fresh_register(),
-            place: Intervals(place + n),
-        },
-    )
+    let line = scrambler::fresh_register();
+    let next = moved(s, Reference::Nothing, line, place + n);
+    Outcome::Gap(Intervals(n), next)
 }
 
-// A point decided as the state y.
+// A point decided as the state y, which becomes the reference.
 fn take_state(s: Receiver, y: u8) -> Outcome
     ensures { λ r. ⌜ r ≡ ifRoom s 1 (stateOutcome s (s .reference) y) ⌝ }
 {
@@ -135,31 +140,24 @@ fn take_state(s: Receiver, y: u8) -> Outcome
     let reference = s.reference;
     let h = s.line;
     match reference {
-        Reference::Nothing => Outcome::Referenced(Receiver {
-            mode: s.mode,
-            role: s.role,
-            reference: Reference::State(y),
-            line: h,
-            place: Intervals(place + 1),
-        }),
+        Reference::Nothing => {
+            let next = moved(s, Reference::State(y), h, place + 1);
+            Outcome::Referenced(next)
+        }
         Reference::State(x) => {
             let line = line::group_of(s.mode, x, y);
             let d = scrambler::descramble_group(s.mode, s.role, h, line);
+            let plain = d.plain;
             let unsettled = d.unsettled;
             let after = d.next;
+            let next = moved(s, Reference::State(y), after, place + 1);
             Outcome::Bits(
                 Group {
                     line,
-                    plain: d.plain,
+                    plain,
                     unsettled,
                 },
-                Receiver {
-                    mode: s.mode,
-                    role: s.role,
-                    reference: Reference::State(y),
-                    line: after,
-                    place: Intervals(place + 1),
-                },
+                next,
             )
         }
     }

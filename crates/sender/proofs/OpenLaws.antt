@@ -17,7 +17,8 @@ use Rattle.line.proofs.RefusalLaws.{need-met, need-rest}
 use Rattle.training.specs.declared.Coder.{Coder}
 use Rattle.training.specs.Coder.{numbers}
 use Rattle.training.specs.Training.{train, start, intervals, trained, trainedStates}
-use Rattle.training.specs.Ahead.{MiddleTable, ahead, aheadStart}
+use Rattle.training.specs.Middle.{MiddleTable}
+use Rattle.training.specs.Ahead.{ahead, aheadStart}
 use Rattle.training.proofs.AheadLaws.{sentBy, by-table}
 use Rattle.sender.specs.Sender.{senderOf, hasRoom}
 use Rattle.sender.specs.Open.{lengthOk, openRefusal, opened, trainingNumbers, openAnswer, openNumbers}

@@ -18,7 +18,8 @@ use Rattle.scrambler.specs.Scramble.{scramble}
 use Rattle.training.specs.declared.Coder.{Coder}
 use Rattle.training.specs.Coder.{coder, coding}
 use Rattle.training.specs.Training.{reversals, changes, three, middle, train27, train32, train, start, intervals, trained, trainedStates}
-use Rattle.training.specs.Ahead.{threes, change, MiddleTable, ahead27, ahead, aheadStart}
+use Rattle.training.specs.Middle.{threes, change, MiddleTable}
+use Rattle.training.specs.Ahead.{ahead27, ahead, aheadStart}
 use Rattle.training.proofs.CoderLaws.{same-coder, ones-bits, scramble-same, pushes-same}
 use Rattle.training.proofs.MiddleLaws.{middle-end}
 use Rattle.training.proofs.TrainingLaws.{segment-1, segment-2, segment-3}

@@ -14,7 +14,7 @@ use Rattle.scrambler.specs.declared.Register.{Register}
 use Rattle.scrambler.specs.Register.{register, back, nearTap, push, pushes}
 use Rattle.scrambler.specs.Scramble.{mix, scramble}
 use Rattle.training.specs.Training.{three, changes}
-use Rattle.training.specs.Ahead.{threes, change, MiddleTable}
+use Rattle.training.specs.Middle.{threes, change, MiddleTable}
 
 -- each entry is the first of the three bits that follow the register
 abbrev pub walk : Register → List ℕ → Bool

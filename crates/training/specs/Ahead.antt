@@ -1,32 +1,16 @@
 -- How the code trains V.27 ter: by a table of the middle changes, so that no line bit of them is computed and the register stands from
 -- the start where they leave it.
 -- Nobody need believe this file: the law `by-table` of proofs/AheadLaws says that it is the training of `Training`.
-use Prim.Native.Nat.{ℕ, zero, suc, _+_, _*_, _-_, _%_, _<_}
-use mathlib.Core.Path.{_≡_}
+use Prim.Native.Nat.{ℕ, _+_, _*_, _-_, _%_}
 use mathlib.Core.Bool.{cond}
 use mathlib.Core.List.{List}
 use lib.Dec.{ltb}
 use lib.ListN.{getD, replicate}
 use Rattle.line.specs.Mode.{byMode, width}
-use Rattle.scrambler.specs.declared.Register.{Register}
-use Rattle.scrambler.specs.Register.{register, pushes}
-use Rattle.scrambler.specs.Scramble.{scramble}
+use Rattle.scrambler.specs.Register.{register}
 use Rattle.training.specs.declared.Coder.{Coder}
 use Rattle.training.specs.Coder.{coder, coding}
-use Rattle.training.specs.Training.{three, reversals, changes, train32}
-
--- the register after k middle intervals, in modes 1 and 2 alike
-abbrev pub threes : ℕ → Register
-threes zero = register 0b0111100 7
-threes (suc k) = pushes 2 (threes k) (scramble 2 0 (threes k) three)
-
--- the change of a middle interval: 1 is 180°, 0 is none
-unfoldable pub change : ℕ → ℕ
-change k = getD (scramble 2 0 (threes k) three) 0 0
-
--- the table's rule, at each of its entries
-pub record MiddleTable (t : List ℕ) : Type 0 where
-  pub at : (k : ℕ) → k < 1074 → getD t k 0 ≡ change k
+use Rattle.training.specs.Training.{reversals, changes, train32}
 
 unfoldable pub ahead27 : List ℕ → ℕ → ℕ → ℕ → ℕ → Coder → Coder
 ahead27 t m role choice i c =

@@ -1,4 +1,5 @@
 pub mod Coder
 pub mod Training
+pub mod Middle
 pub mod Ahead
 pub mod Bench

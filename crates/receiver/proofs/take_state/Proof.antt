@@ -5,6 +5,7 @@ use Rattle.receiver.proofs.take_state.Tie as tie
 use Rattle.receiver.proofs.take_state.Reads as reads
 use Rattle.receiver.proofs.take_state.Lts as lts
 use Rattle.line.proofs.group_of.Reads as group-of-reads
+use Rattle.receiver.proofs.moved.Reads as moved-reads
 use Rattle.scrambler.proofs.descramble_group.Reads as descramble-group-reads
 
 sub-if1 : tie.Need-sub-if1
@@ -16,8 +17,11 @@ returns c = search room-none
 enum-told : tie.Need-enum-told
 enum-told c = search needs
 
-add-t15 : tie.Need-add-t15
-add-t15 c = search needs
+add-moved : tie.Need-add-moved
+add-moved c = search needs
+
+moved-requires : tie.Need-moved-requires
+moved-requires c κs = search needs
 
 enum-known-reference : tie.Need-enum-known-reference
 enum-known-reference c = search needs
@@ -28,14 +32,17 @@ group-of-requires c κs = search needs
 descramble-group-requires : tie.Need-descramble-group-requires
 descramble-group-requires c κs = search needs
 
-add-t20 : tie.Need-add-t20
-add-t20 c = search needs
+add-moved-2 : tie.Need-add-moved-2
+add-moved-2 c = search needs
+
+moved-requires-2 : tie.Need-moved-requires-2
+moved-requires-2 c κs = search needs
 
 returns-2 : tie.Need-returns-2
-returns-2 c = reference-law _ _ _ (search needs) (c .before .before .before .if1 .left) (search needs)
+returns-2 c = reference-law _ _ _ _ (search needs) (c .before .before .before .before .if1 .left) (search needs) (c .moved .ensures)
 
 returns-3 : tie.Need-returns-3
-returns-3 c = bits-law _ _ _ (search needs) (c .before .before .before .before .before .before .before .before .if1 .left) _ _ _ (search needs) (c .before .before .before .group-of .ensures) (c .before .before .descramble-group .ensures)
+returns-3 c = bits-law _ _ _ _ (search needs) (c .before .before .before .before .before .before .before .before .before .if1 .left) _ _ _ (search needs) (c .before .before .before .before .group-of .ensures) (c .before .before .before .descramble-group .ensures) (c .moved2 .ensures)
 
 pub take-state-spec : {M : Type 1} → statement M
 take-state-spec =
@@ -44,10 +51,12 @@ take-state-spec =
     sub-if1
     returns
     enum-told
-    add-t15
+    add-moved
+    moved-requires
     enum-known-reference
     group-of-requires
     descramble-group-requires
-    add-t20
+    add-moved-2
+    moved-requires-2
     returns-2
     returns-3)

@@ -1,0 +1,23 @@
+-- Document 01, "Sender": "The middle changes follow every third bit (the first of three) of ones scrambled from the register
+-- 0 1 1 1 1 0 0, oldest first. They stand as a table of 1,074 entries."
+use Prim.Native.Nat.{ℕ, zero, suc, _<_}
+use mathlib.Core.Path.{_≡_}
+use mathlib.Core.List.{List}
+use lib.ListN.{getD}
+use Rattle.scrambler.specs.declared.Register.{Register}
+use Rattle.scrambler.specs.Register.{register, pushes}
+use Rattle.scrambler.specs.Scramble.{scramble}
+use Rattle.training.specs.Training.{three}
+
+-- the register after k middle intervals, in modes 1 and 2 alike
+abbrev pub threes : ℕ → Register
+threes zero = register 0b0111100 7
+threes (suc k) = pushes 2 (threes k) (scramble 2 0 (threes k) three)
+
+-- the change of a middle interval: 1 is 180°, 0 is none
+unfoldable pub change : ℕ → ℕ
+change k = getD (scramble 2 0 (threes k) three) 0 0
+
+-- the table's rule, at each of its entries
+pub record MiddleTable (t : List ℕ) : Type 0 where
+  pub at : (k : ℕ) → k < 1074 → getD t k 0 ≡ change k
