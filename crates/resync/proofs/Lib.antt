@@ -2,3 +2,4 @@ pub mod RowLaws
 pub mod ReceivedLaws
 pub mod HandedLaws
 pub mod DemandProof
+pub mod Instance

@@ -1,3 +1,4 @@
 pub mod Assured
 pub mod DataPoints
 pub mod Demand
+pub mod Instance

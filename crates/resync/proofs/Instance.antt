@@ -1,0 +1,44 @@
+-- Every premise of demand 3 can be met. Assumes nothing.
+use Prim.Native.Nat.{ℕ}
+use mathlib.Core.Path.{_≡_, refl, sym}
+use mathlib.Core.List.{List, [], _∷_, append-nil}
+use lib.IntN.{pos}
+use lib.ListN.{replicate}
+use Rattle.line.specs.Table.{entry, rowFrom}
+use Rattle.line.specs.Mode.{isMode, isRole, width, regLen, step, states, isState, quadrant, turn, quarterSteps, face}
+use Rattle.line.specs.Point.{inRange, isOrigin, sent27, sentPoint}
+use Rattle.line.specs.Decide.{inFirst, first, turnedAnswer, quarters, decide}
+use Rattle.line.specs.Code.{changes4, coded, eighths, group}
+use Rattle.scrambler.specs.Bits.{isBit}
+use Rattle.scrambler.specs.Register.{back, nearTap, push, registerOk}
+use Rattle.scrambler.specs.Scramble.{mix}
+use Rattle.receiver.specs.Receiver.{freshReceiver, isFresh, fieldsOk, freshRefusal, stateRefusal, hasRoom, eventRefusal, refusal, stateAnswer, pointAnswer, eventAnswer, answer, forgotten, stateLine, stateNext, pointNext, eventNext, next}
+use Rattle.training.specs.Coder.{coding}
+use Rattle.sender.specs.Sender as Sending
+use Rattle.sender.specs.Sender.{dataRefusal, sendRefusal, grouped, afterGroup, sendAnswer, sendNumbers, fieldsOk as sendFieldsOk, stateRefusal as sendStateRefusal, hasRoom as sendHasRoom}
+use Rattle.octets.specs.Number.{pattern, signed}
+use Rattle.store.specs.Layout.{recordOk, spanOf, eventsOf, next as nextIndex}
+use Rattle.store.specs.Store.{chain, events, total, sizeOk, hasMark, headOk, chainOk, recordsOk, totalOk, refusal as storeRefusal}
+use Rattle.store.specs.Reading.{readNumber, readCount, readResult}
+use Rattle.track.specs.Append.{made, hasRoom as recordHasRoom, pointAppended, pointNumber, pointResult}
+use Rattle.resync.specs.DataPoints.{Consecutive, ReadBack, received, appended, eventIn}
+use Rattle.resync.specs.Instance.{sender, call, sent, listA, listB, Premises}
+
+consecutive : Consecutive 1 0 sent
+unfolding sent
+consecutive = record { sender = sender; mode-is = refl; role-is = refl; calls = call ∷ []; earlier = []; later = []; are = sym (append-nil sent) }
+
+read-back : ReadBack sent (received sent)
+unfolding sent entry rowFrom isMode isRole width regLen states isState quadrant face inRange isOrigin sent27 sentPoint changes4 coded eighths isBit back nearTap push registerOk mix coding dataRefusal sendRefusal grouped afterGroup sendAnswer sendNumbers sendFieldsOk sendStateRefusal sendHasRoom pattern signed recordOk spanOf eventsOf nextIndex chain events total sizeOk hasMark headOk chainOk recordsOk totalOk storeRefusal readNumber readCount readResult made recordHasRoom pointAppended pointNumber pointResult eventIn
+read-back =
+    record {
+      store = made 96 1 0; store-accepted = refl; appends = appended sent; earlier = []; later = []; in-order = refl; lent = replicate 24 (pos 0); offset = 0;
+      read-accepted = refl; handed-on = refl }
+
+pub premises : Premises
+unfolding sent listA listB entry rowFrom isMode isRole width regLen step states isState quadrant turn quarterSteps face inRange isOrigin sent27 sentPoint inFirst first turnedAnswer quarters decide changes4 coded eighths group isBit back nearTap push registerOk mix freshReceiver isFresh fieldsOk freshRefusal stateRefusal hasRoom eventRefusal refusal stateAnswer pointAnswer eventAnswer answer forgotten stateLine stateNext pointNext eventNext next coding dataRefusal sendRefusal grouped afterGroup sendAnswer sendNumbers sendFieldsOk sendStateRefusal sendHasRoom
+premises =
+    record {
+      points-A = (tt, (tt, (tt, (tt, (tt, (tt, (tt, (tt, tt))))))));
+      points-B = (tt, (tt, (tt, (tt, (tt, (tt, (tt, (tt, tt))))))));
+      eight = refl; equally-many = refl; turned-by-one = (1, (refl, refl)); consecutive = consecutive; direct = refl; read-back = read-back }
