@@ -32,8 +32,17 @@ read-back : ReadBack sent (received sent)
 unfolding sent entry rowFrom isMode isRole width regLen states isState quadrant face inRange isOrigin sent27 sentPoint changes4 coded eighths isBit back nearTap push registerOk mix coding dataRefusal sendRefusal grouped afterGroup sendAnswer sendNumbers sendFieldsOk sendStateRefusal sendHasRoom pattern signed recordOk spanOf eventsOf nextIndex chain events total sizeOk hasMark headOk chainOk recordsOk totalOk storeRefusal readNumber readCount readResult made recordHasRoom pointAppended pointNumber pointResult eventIn
 read-back =
     record {
-      store = made 96 1 0; store-accepted = refl; appends = appended sent; earlier = []; later = []; in-order = refl; lent = replicate 24 (pos 0); offset = 0;
-      read-accepted = refl; handed-on = refl }
+      store = made 96 1 0;
+      store-accepted = refl;
+      appends = appended sent;
+      earlier = [];
+      later = [];
+      in-order = refl;
+      lent = replicate 24 (pos 0);
+      offset = 0;
+      read-accepted = refl;
+      handed-on = refl;
+    }
 
 pub premises : Premises
 unfolding sent listA listB entry rowFrom isMode isRole width regLen step states isState quadrant turn quarterSteps face inRange isOrigin sent27 sentPoint inFirst first turnedAnswer quarters decide changes4 coded eighths group isBit back nearTap push registerOk mix freshReceiver isFresh fieldsOk freshRefusal stateRefusal hasRoom eventRefusal refusal stateAnswer pointAnswer eventAnswer answer forgotten stateLine stateNext pointNext eventNext next coding dataRefusal sendRefusal grouped afterGroup sendAnswer sendNumbers sendFieldsOk sendStateRefusal sendHasRoom
@@ -41,4 +50,10 @@ premises =
     record {
       points-A = (tt, (tt, (tt, (tt, (tt, (tt, (tt, (tt, tt))))))));
       points-B = (tt, (tt, (tt, (tt, (tt, (tt, (tt, (tt, tt))))))));
-      eight = refl; equally-many = refl; turned-by-one = (1, (refl, refl)); consecutive = consecutive; direct = refl; read-back = read-back }
+      eight = refl;
+      equally-many = refl;
+      turned-by-one = (1, (refl, refl));
+      consecutive = consecutive;
+      direct = refl;
+      read-back = read-back;
+    }

@@ -3,3 +3,4 @@ pub mod ReceivedLaws
 pub mod HandedLaws
 pub mod DemandProof
 pub mod Instance
+pub mod Bench
