@@ -225,9 +225,9 @@ fn write_training(mode: u8, role: u8, length: u32, out: &mut [i16]) -> training:
     let mut i = 0;
     while i < n {
         c = training::train_interval(mode, role, length, i, c, &t);
-        let p = line::sent_point(mode, c.reference);
-        let re = p.re;
-        let im = p.im;
+        let point = line::sent_point(mode, c.reference);
+        let re = point.re;
+        let im = point.im;
         out[2 * i] = re;
         out[2 * i + 1] = im;
         i += 1;

@@ -4,3 +4,4 @@ pub mod Sounds
 pub mod PointRuns
 pub mod Going
 pub mod Views
+pub mod Readings

@@ -4,20 +4,11 @@ use mathlib.Core.List.{List, [], _∷_}
 use Prim.Native.Nat.{ℕ, zero, suc, _%_}
 use lib.Dec.{eqb, ltb, leb}
 use lib.ListN.{length, getD, drop}
+pub use Rattle.line.specs.Refusal.{need, orNext as orElse}
 use Rattle.line.specs.Mode.{isMode, isRole}
 use Rattle.octets.specs.Number.{u32, zeros}
 use Rattle.store.specs.Chain.{walk, lastOf, all, distinct, sumOver, gather}
 use Rattle.store.specs.Layout.{Event, count, rec, totalAt, next, recordOk, spanOf, eventsOf}
-
--- the number of the first need that is not met
-abbrev pub need : Bool → ℕ → ℕ → ℕ
-need true n rest = rest
-need false n rest = n
-
--- the first number, and where it is 0 the second
-abbrev pub orElse : ℕ → ℕ → ℕ
-orElse zero m = m
-orElse (suc k) m = suc k
 
 -- the chain that starts in record 0: at most N indexes
 unfoldable pub chain : List ℕ → List ℕ

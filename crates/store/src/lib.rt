@@ -9,12 +9,15 @@ use octets::get32;
 use octets::zero_from;
 ghost use mathlib.Core.Path.{_≡_};
 ghost use mathlib.Core.Bool.{true, false, _&&_};
+ghost use mathlib.Core.List.{[], _∷_};
 ghost use Prim.Native.Nat.{_+_, _*_, _≤_, _<_, max};
 ghost use lib.ListN.{length, drop};
+ghost use lib.Seq.{sets};
 ghost use Rattle.line.specs.Point.{inRange};
 ghost use Rattle.octets.specs.Number.{i16};
-ghost use Rattle.store.specs.Layout.{rec, linkIn, next, pointsOk, recordOk, spanOf};
-ghost use Rattle.store.specs.Store.{need, orElse, sizeOk, hasMark, headOk};
+ghost use Rattle.store.specs.Layout.{rec, linkIn, next, points, pointsOk, recordOk, spanOf, eventsOf};
+ghost use Rattle.store.specs.Store.{need, orElse, events, refusal, sizeOk, hasMark, headOk};
+ghost use Rattle.store.specs.Reading.{numbers, readNumber, readCount, readResult};
 ghost use Rattle.store.specs.Walk.{Sized, Passed, Walked, Viewed};
 
 // Where record 0 holds the chain's first index and the total.
@@ -251,4 +254,127 @@ pub fn inspect(s: &[u8]) -> View
             total: 0,
         }
     }
+}
+
+// ---- reading
+
+// How many events a record holds.
+fn events_in(r: &[u8]) -> usize
+    ensures { λ n. ⌜ (n ≡ length (eventsOf (now (r .entry)))) × (n < 256) ⌝ }
+{
+    if get8(r, 2) == 1 {
+        return get8(r, 3);
+    }
+    1
+}
+
+// How many events an accepted store holds.
+fn count_events(s: &[u8]) -> usize
+    requires { ⌜ refusal (now s) ≡ 0 ⌝ }
+    ensures { λ n. ⌜ (n ≡ length (events (now (s .entry)))) × (n ≤ 524288) ⌝ }
+{
+    let mut n: usize = 0;
+    let mut k: usize = 0;
+    let mut i = next_of(s, 0);
+    while i != 0 {
+        n += events_in(record_at(s, i));
+        k += 1;
+        i = next_of(s, i);
+    }
+    n
+}
+
+// One event: its kind, and a point's coordinates or a count and 0.
+fn put_event(out: &mut [i64], at: usize, kind: i64, a: i64, b: i64)
+    requires { ⌜ at + 2 < length (now out) ⌝ }
+    ensures { λ _. ⌜ now (out .exit) ≡ sets (now (out .entry)) at (kind ∷ a ∷ b ∷ []) ⌝ }
+{
+    out[at] = kind;
+    out[at + 1] = a;
+    out[at + 2] = b;
+}
+
+// A coordinate at byte `at` of a record.
+fn coordinate(r: &[u8], at: usize) -> i64
+    ensures { λ z. ⌜ z ≡ i16 (now (r .entry)) at ⌝ }
+{
+    get_i16(r, at) as i64
+}
+
+// The first n points of a record.
+fn put_points(r: &[u8], n: usize, out: &mut [i64], at: usize)
+    requires { ⌜ (n < 256) × (at + 3 * n ≤ length (now out)) ⌝ }
+    ensures { λ _. ⌜ now (out .exit) ≡ sets (now (out .entry)) at (numbers (points (drop 4 (now (r .entry))) n)) ⌝ }
+{
+    let mut k = 0;
+    while k < n {
+        let from = 4 + 4 * k;
+        let re = coordinate(r, from);
+        let im = coordinate(r, from + 2);
+        put_event(out, at + 3 * k, 1, re, im);
+        k += 1;
+    }
+}
+
+// The events of a record; the place after them.
+fn put_events(r: &[u8], out: &mut [i64], at: usize) -> usize
+    requires { ⌜ at + 3 * length (eventsOf (now r)) ≤ length (now out) ⌝ }
+    ensures { λ e. ⌜ (now (out .exit) ≡ sets (now (out .entry)) at (numbers (eventsOf (now (r .entry))))) × (e ≡ at + 3 * length (eventsOf (now (r .entry)))) ⌝ }
+{
+    if get8(r, 2) == 1 {
+        let n = get8(r, 3);
+        put_points(r, n, out, at);
+        return at + 3 * n;
+    }
+    put_event(out, at, 2, get32(r, 4) as i64, 0);
+    at + 3
+}
+
+// The events of an accepted store's chain.
+fn put_chain(s: &[u8], out: &mut [i64], offset: usize)
+    requires { ⌜ (refusal (now s) ≡ 0) × (offset + 3 * length (events (now s)) ≤ length (now out)) ⌝ }
+    ensures { λ _. ⌜ now (out .exit) ≡ sets (now (out .entry)) offset (numbers (events (now (s .entry)))) ⌝ }
+{
+    let mut at = offset;
+    let mut k: usize = 0;
+    let mut i = next_of(s, 0);
+    while i != 0 {
+        at = put_events(record_at(s, i), out, at);
+        k += 1;
+        i = next_of(s, i);
+    }
+}
+
+// What reading gives: the number that refuses it, or 0, and how many events were written.
+pub struct Reading {
+    pub number: u8,
+    pub count: usize,
+}
+
+// Reads all events, three numbers for each, into the lent numbers from the offset on.
+pub fn read(store: &[u8], out: &mut [i64], offset: usize) -> Reading
+    ensures { λ r. ⌜ (r .number ≡ readNumber (now (store .entry)) (length (now (out .entry))) offset) × (r .count ≡ readCount (now (store .entry)) (length (now (out .entry))) offset) × (now (out .exit) ≡ readResult (now (store .entry)) (now (out .entry)) offset) ⌝ }
+{
+    if out.len() < offset {
+        return Reading {
+            number: 7,
+            count: 0,
+        };
+    }
+    let v = inspect(store);
+    if v.number != 0 {
+        return Reading {
+            number: v.number,
+            count: 0,
+        };
+    }
+    let count = count_events(store);
+    if out.len() - offset < 3 * count {
+        return Reading {
+            number: 7,
+            count: 0,
+        };
+    }
+    put_chain(store, out, offset);
+    Reading { number: 0, count }
 }

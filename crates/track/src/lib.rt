@@ -17,6 +17,7 @@ use store::inspect;
 use store::link_in;
 use store::need;
 use store::or_else;
+pub use store::read;
 use store::size_ok;
 ghost use mathlib.Core.Path.{_≡_};
 ghost use mathlib.Core.Bool.{true, false};

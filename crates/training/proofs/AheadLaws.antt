@@ -17,7 +17,7 @@ use Rattle.scrambler.specs.Register.{register, nearTap, pushes}
 use Rattle.scrambler.specs.Scramble.{scramble}
 use Rattle.training.specs.declared.Coder.{Coder}
 use Rattle.training.specs.Coder.{coder, coding}
-use Rattle.training.specs.Training.{reversals, changes, three, middle, train27, train32, train, start, intervals, trained, trainedStates}
+use Rattle.training.specs.Training.{reversals, changes, spent, middle, train27, train32, train, start, intervals, trained, trainedStates}
 use Rattle.training.specs.Middle.{threes, change, MiddleTable}
 use Rattle.training.specs.Ahead.{ahead27, ahead, aheadStart}
 use Rattle.training.proofs.CoderLaws.{same-coder, ones-bits, scramble-same, pushes-same}
@@ -96,10 +96,10 @@ module _ (t : List ℕ) (rule : MiddleTable t) (m role n : ℕ) (hm : m ≤ 2) w
   middle-is : (k : ℕ) (d : Coder) → d .line ≡ threes k → middle m role d ≡ coder ((d .reference + 4 * change k) % 8) (threes (suc k))
   unfolding middle change
   middle-is k d e =
-      let l : scramble m role (d .line) three ≡ scramble 2 0 (threes k) three =
-      ap (λ (h : Register). scramble m role h three) e ∙ scramble-same m 2 role 0 tap size (threes k) three in
+      let l : scramble m role (d .line) (spent m) ≡ scramble 2 0 (threes k) (spent 2) =
+      ap (λ (h : Register). scramble m role h (spent m)) e ∙ scramble-same m 2 role 0 tap size (threes k) (spent 2) in
       same-coder (ap (λ (x : List ℕ). (d .reference + 4 * getD x 0 0) % 8) l)
-      (ap₂ (pushes m) e l ∙ pushes-same m 2 role 0 tap size (threes k) (scramble 2 0 (threes k) three))
+      (ap₂ (pushes m) e l ∙ pushes-same m 2 role 0 tap size (threes k) (scramble 2 0 (threes k) (spent 2)))
 
   step27 : (i : ℕ) (c d : Coder) → Ahead n i c d
       → Sends n i (ahead27 t m role n i c) (train27 m role n i d)

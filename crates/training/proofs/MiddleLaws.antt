@@ -13,13 +13,13 @@ use Rattle.line.proofs.TableLaws.{and-left, and-right}
 use Rattle.scrambler.specs.declared.Register.{Register}
 use Rattle.scrambler.specs.Register.{register, back, nearTap, push, pushes}
 use Rattle.scrambler.specs.Scramble.{mix, scramble}
-use Rattle.training.specs.Training.{three, changes}
+use Rattle.training.specs.Training.{spent, changes}
 use Rattle.training.specs.Middle.{threes, change, MiddleTable}
 
 -- each entry is the first of the three bits that follow the register
 abbrev pub walk : Register → List ℕ → Bool
 walk h [] = true
-walk h (x ∷ xs) = eqb x (getD (scramble 2 0 h three) 0 0) && walk (pushes 2 h (scramble 2 0 h three)) xs
+walk h (x ∷ xs) = eqb x (getD (scramble 2 0 h (spent 2)) 0 0) && walk (pushes 2 h (scramble 2 0 h (spent 2))) xs
 
 from : (xs : List ℕ) (n : ℕ) → T (walk (threes n) xs) → (k : ℕ) → k < length xs → getD xs k 0 ≡ change (n + k)
 unfolding change

@@ -25,7 +25,7 @@ use Rattle.scrambler.proofs.WindowLaws.{mix-small}
 use Rattle.scrambler.proofs.GroupLaws.{length-scramble, bits-scramble}
 use Rattle.training.specs.declared.Coder.{Coder}
 use Rattle.training.specs.Coder.{coder, coding}
-use Rattle.training.specs.Training.{reversals, changes, three, middle, train27, A, B, C, D, dibitState, train32, train, start, intervals, trained}
+use Rattle.training.specs.Training.{reversals, changes, spent, middle, train27, A, B, C, D, dibitState, train32, train, start, intervals, trained}
 use Rattle.training.proofs.CoderLaws.{same-coder, scramble-same, pushes-same, Ready, ready-pushes, ready-coding}
 
 -- HOW MANY
@@ -139,19 +139,24 @@ abcd-states m d hm h =
 moved : (m r : ℕ) (c : Coder) → Ready m c → T (isState m r) → Ready m (coder r (c .line))
 moved m r c k t = record { state = t; full = k .full; fit = k .fit }
 
-first-bit : (m role : ℕ) (h : Register) (n : ℕ) → getD (scramble m role h (replicate (suc n) 1)) 0 0 < 2
-first-bit m role h n = mix-small m role h 1
+first-bit : (m role : ℕ) (h : Register) (ds : List ℕ) → getD (scramble m role h ds) 0 0 < 2
+first-bit m role h [] = omega arith
+first-bit m role h (d ∷ ds) = mix-small m role h d
 
 module _ (m role i : ℕ) (c : Coder) (hm : T (isMode m)) (k : Ready m c) where
+  ready-middle : m ≤ 2 → Ready m (middle m role c)
+  unfolding middle
+  ready-middle h = ready-pushes m role _ c (spent m) k (half-states m (c .reference) _ hm h (k .state) (first-bit m role (c .line) (spent m)))
+
   ready-27 : (n : ℕ) → m ≤ 2 → Ready m (train27 m role n i c)
-  unfolding train27 middle
+  unfolding train27
   ready-27 n h = go (decLt i (reversals n)) (decLt i (reversals n + changes n))
     where
       go : Dec (i < reversals n) → Dec (i < reversals n + changes n) → Ready m (train27 m role n i c)
       go (yes a) b = subst (Ready m) (sym (segment-1 _ _ i _ _ _ a)) (moved m _ c k (half-states m (c .reference) 1 hm h (k .state) (omega arith)))
       go (no a) (yes b) =
           subst (Ready m) (sym (segment-2 _ _ i _ _ _ (omega (arith, a)) b))
-          (ready-pushes m role _ c three k (half-states m (c .reference) _ hm h (k .state) (first-bit m role (c .line) 2)))
+          (ready-middle h)
       go (no a) (no b) =
           subst (Ready m) (sym (segment-3 _ _ i _ _ _ (omega (arith, a)) (omega (arith, b))))
           (ready-coding m role c (replicate (width m) 1) hm k (length-replicate (width m) 1))

@@ -7,16 +7,16 @@ use lib.ListN.{getD}
 use Rattle.scrambler.specs.declared.Register.{Register}
 use Rattle.scrambler.specs.Register.{register, pushes}
 use Rattle.scrambler.specs.Scramble.{scramble}
-use Rattle.training.specs.Training.{three}
+use Rattle.training.specs.Training.{spent}
 
 -- the register after k middle intervals, in modes 1 and 2 alike
 abbrev pub threes : ℕ → Register
 threes zero = register 0b0111100 7
-threes (suc k) = pushes 2 (threes k) (scramble 2 0 (threes k) three)
+threes (suc k) = pushes 2 (threes k) (scramble 2 0 (threes k) (spent 2))
 
 -- the change of a middle interval: 1 is 180°, 0 is none
 unfoldable pub change : ℕ → ℕ
-change k = getD (scramble 2 0 (threes k) three) 0 0
+change k = getD (scramble 2 0 (threes k) (spent 2)) 0 0
 
 -- the table's rule, at each of its entries
 pub record MiddleTable (t : List ℕ) : Type 0 where

@@ -19,12 +19,12 @@ unfoldable pub changes : ℕ → ℕ
 changes choice = cond (eqb choice 0) 58 1074
 
 -- "three bits are spent for each", in mode 1 too; "the first of three" says whether the state turns by 180°
-abbrev pub three : List ℕ
-three = replicate 3 1
+abbrev pub spent : ℕ → List ℕ
+spent m = replicate 3 1
 
 unfoldable pub middle : ℕ → ℕ → Coder → Coder
 middle m role c =
-    let l : List ℕ = scramble m role (c .line) three in
+    let l : List ℕ = scramble m role (c .line) (spent m) in
     coder ((c .reference + 4 * getD l 0 0) % 8) (pushes m (c .line) l)
 
 -- interval i of V.27 ter: a reversal, a change of 0° or 180°, or a point of scrambled ones

@@ -1,6 +1,6 @@
 // The middle changes of V.27 ter: 1 turns by 180°, 0 does not.
 pub const CHANGES: [u8; 1074] = [
-    0,
+    0, // entry 0
     1,
     1,
     1,
@@ -100,7 +100,7 @@ pub const CHANGES: [u8; 1074] = [
     0,
     0,
     0,
-    1,
+    1, // entry 100
     0,
     0,
     1,
@@ -200,8 +200,8 @@ pub const CHANGES: [u8; 1074] = [
     0,
     1,
     0,
+    0, // entry 200
     0,
-    0,
     1,
     0,
     1,
@@ -300,8 +300,8 @@ pub const CHANGES: [u8; 1074] = [
     1,
     1,
     1,
+    0, // entry 300
     0,
-    0,
     1,
     1,
     0,
@@ -400,7 +400,7 @@ pub const CHANGES: [u8; 1074] = [
     0,
     1,
     0,
-    1,
+    1, // entry 400
     0,
     0,
     1,
@@ -500,7 +500,7 @@ pub const CHANGES: [u8; 1074] = [
     1,
     1,
     1,
-    1,
+    1, // entry 500
     0,
     0,
     1,
@@ -600,7 +600,7 @@ pub const CHANGES: [u8; 1074] = [
     0,
     0,
     0,
-    0,
+    0, // entry 600
     1,
     1,
     0,
@@ -699,8 +699,8 @@ pub const CHANGES: [u8; 1074] = [
     0,
     0,
     0,
-    1,
     1,
+    1, // entry 700
     0,
     1,
     0,
@@ -800,9 +800,9 @@ pub const CHANGES: [u8; 1074] = [
     0,
     1,
     0,
+    0, // entry 800
     0,
     0,
-    0,
     1,
     0,
     1,
@@ -900,8 +900,8 @@ pub const CHANGES: [u8; 1074] = [
     0,
     0,
     1,
+    1, // entry 900
     1,
-    1,
     0,
     1,
     0,
@@ -996,11 +996,11 @@ pub const CHANGES: [u8; 1074] = [
     0,
     0,
     0,
-    1,
     1,
     1,
     1,
     1,
+    1, // entry 1000
     1,
     0,
     1,
