@@ -1,0 +1,120 @@
+/*
+ * The line recorder's symbol codec: receiver, sender and track store, over bytes and numbers that the caller lends.
+ *
+ * Every function is total: it takes any numbers and any lent bytes. A lent slice is a pointer and a count of elements; the
+ * pointer must be valid for that count, and two slices of one call must not overlap. Where a count is 0 the pointer is not
+ * read, but must not be null.
+ *
+ * Each function returns 0, or the number of the refusal. A refusal leaves every lent byte and number as it was; of several
+ * that apply, the lowest is given.
+ *
+ *    1  mode not 1 to 4, a handed-in state's included
+ *    2  role not one of the mode's, a state's included
+ *    3  training length not 0 or 1 (modes 1 and 2), not 1280 to 8192 (3 and 4)
+ *    4  a handed-in state with another field outside its range, or a byte of its layout that is not as below
+ *    5  a data byte above 1
+ *    6  data bits not a multiple of w, the mode's bits in a point
+ *    7  lent numbers too few from the offset, or an offset past their end; fewer lent bytes than a state or an answer has;
+ *       a last number to append without its partner
+ *    8  a coordinate outside -16384 to 16384
+ *    9  a gap, or a lost count to append, of 0
+ *   10  a mode 2 point off the origin in none of the eight sectors
+ *   11  store size not 32 times an N from 2 to 2048
+ *   12  record 0's four bytes, mode, role or a byte due to be zero
+ *   13  an index of N or more, or met twice
+ *   14  a chain record that breaks its layout or holds a point out of range
+ *   15  total not the chain's sum
+ *   16  place or total above 4294967295
+ *   17  a new record is needed and the greatest index is N - 1
+ *
+ * A handed-in state of fewer bytes than a state has is refused by 7 alone: there is no state that 1, 2 and 4 could refuse.
+ *
+ * Modes: 1 V.27 ter 2400 bit/s, 2 V.27 ter 4800, 3 V.32 4800, 4 V.32 9600 without trellis coding. Role 0 is the calling
+ * sender, 1 the answering one; modes 1 and 2 have role 0 only.
+ *
+ * Numbers in bytes are little-endian.
+ */
+#ifndef KERAMBIU_H
+#define KERAMBIU_H
+
+#include <stddef.h>
+#include <stdint.h>
+
+#ifdef __cplusplus
+extern "C" {
+#endif
+
+/*
+ * A receiver's state:                          A sender's state:
+ *    0  mode                                      0  mode
+ *    1  role                                      1  role
+ *    2  1 with a reference, 0 without one         2  the reference
+ *    3  the reference, 0 without one              3  zero
+ *    4  the register's line bits, u32,            4  the register's line bits, u32,
+ *       newest lowest                                newest lowest
+ *    8  their count                               8  their count
+ *    9  three zeros                               9  seven zeros
+ *   12  the place in unit intervals, u32
+ */
+#define KERAMBIU_STATE_BYTES 16
+
+/*
+ * A receiver's answer:
+ *    0  kind: 0 the point became the reference, 1 bits, 2 a gap
+ *    1  line bits, a number with the first in time highest
+ *    2  data bits, likewise; an unsettled one is 0
+ *    3  how many of the data bits are unsettled: the first ones in time
+ *    4  the gap in unit intervals, u32; 0 for the other kinds
+ */
+#define KERAMBIU_ANSWER_BYTES 8
+
+/* A receiver that has taken nothing. Refuses by 1, 2 and 7. */
+uint8_t kerambiu_fresh(uint8_t *state, size_t state_len, uint8_t mode, uint8_t role);
+
+/* Takes a point; the origin is a gap of one interval. Refuses by 1, 2, 4, 7, 8, 10 and 16. */
+uint8_t kerambiu_receive_point(uint8_t *state, size_t state_len, int16_t re, int16_t im, uint8_t *answer, size_t answer_len);
+
+/* Takes a gap of n intervals. Refuses by 1, 2, 4, 7, 9 and 16. */
+uint8_t kerambiu_receive_gap(uint8_t *state, size_t state_len, uint32_t n, uint8_t *answer, size_t answer_len);
+
+/*
+ * Opens a sender: writes the points of its training, re and im in turn, into the lent numbers from the offset on, and the state
+ * after it. Refuses by 1, 2, 3 and 7. The length is 0 or 1 in modes 1 and 2, which take 80 or 1132 points; in modes 3 and 4 it
+ * is the intervals of the third segment, and the points are 272 more.
+ */
+uint8_t kerambiu_open(uint8_t *state, size_t state_len, uint8_t mode, uint8_t role, uint32_t length, int16_t *out, size_t out_len,
+                      size_t offset);
+
+/* Sends data bits, one in a byte, w to a point, and hands on the state. Refuses by 1, 2, 4, 5, 6 and 7. */
+uint8_t kerambiu_send(uint8_t *state, size_t state_len, const uint8_t *input, size_t input_len, int16_t *out, size_t out_len,
+                      size_t offset);
+
+/*
+ * A track store is N records of 32 bytes, N from 2 to 2048.
+ *   record 0   the bytes "VSYM", 4 mode, 5 role, 6 next (u16), 8 total intervals (u32), zeros
+ *   others     0 next (u16), 2 kind, 3 count; kind 1: count 1 to 7 points of re, im (i16) from byte 4; kind 2: count 0, lost
+ *              intervals (u32 at 4, at least 1); unused bytes zero
+ * Next is an index, 0 ends the chain; records outside the chain may hold anything.
+ */
+#define KERAMBIU_RECORD_BYTES 32
+
+/* Makes an empty store. Refuses by 1, 2 and 11. */
+uint8_t kerambiu_make(uint8_t *store, size_t store_len, uint8_t mode, uint8_t role);
+
+/* Appends a point. Refuses by 8 and 11 to 17. */
+uint8_t kerambiu_append_point(uint8_t *store, size_t store_len, int16_t re, int16_t im);
+
+/* Appends a lost count. Refuses by 9 and 11 to 17. */
+uint8_t kerambiu_append_lost(uint8_t *store, size_t store_len, uint32_t n);
+
+/*
+ * Appends points, re and im in turn, all or none: as one append after the other, or refused with the number of the first that
+ * would be refused. Refuses by 7, 8 and 11 to 17; without points there is nothing to refuse.
+ */
+uint8_t kerambiu_append_points(uint8_t *store, size_t store_len, const int16_t *points, size_t points_len);
+
+#ifdef __cplusplus
+}
+#endif
+
+#endif

@@ -1,0 +1,11 @@
+//! The proved library, called through its C functions, and what the comparison
+//! programs share.
+
+pub mod layout;
+pub mod ours;
+pub mod points;
+pub mod receiving;
+pub mod sending;
+pub mod stores;
+pub mod storing;
+pub mod tally;

@@ -1,0 +1,107 @@
+//! The proved library's C functions, as calls on slices. Each gives 0 or the
+//! number that refuses the call.
+
+mod c {
+    #[link(name = "capi", kind = "static")]
+    extern "C" {
+        pub fn kerambiu_fresh(state: *mut u8, state_len: usize, mode: u8, role: u8) -> u8;
+        pub fn kerambiu_receive_point(
+            state: *mut u8,
+            state_len: usize,
+            re: i16,
+            im: i16,
+            answer: *mut u8,
+            answer_len: usize,
+        ) -> u8;
+        pub fn kerambiu_receive_gap(
+            state: *mut u8,
+            state_len: usize,
+            n: u32,
+            answer: *mut u8,
+            answer_len: usize,
+        ) -> u8;
+        pub fn kerambiu_open(
+            state: *mut u8,
+            state_len: usize,
+            mode: u8,
+            role: u8,
+            length: u32,
+            out: *mut i16,
+            out_len: usize,
+            offset: usize,
+        ) -> u8;
+        pub fn kerambiu_send(
+            state: *mut u8,
+            state_len: usize,
+            input: *const u8,
+            input_len: usize,
+            out: *mut i16,
+            out_len: usize,
+            offset: usize,
+        ) -> u8;
+        pub fn kerambiu_make(store: *mut u8, store_len: usize, mode: u8, role: u8) -> u8;
+        pub fn kerambiu_append_point(store: *mut u8, store_len: usize, re: i16, im: i16) -> u8;
+        pub fn kerambiu_append_lost(store: *mut u8, store_len: usize, n: u32) -> u8;
+        pub fn kerambiu_append_points(
+            store: *mut u8,
+            store_len: usize,
+            points: *const i16,
+            points_len: usize,
+        ) -> u8;
+    }
+}
+
+// Each call hands over the pointer and the length of live slices that do not
+// overlap, which is all that the functions ask.
+
+pub fn fresh(state: &mut [u8], mode: u8, role: u8) -> u8 {
+    unsafe { c::kerambiu_fresh(state.as_mut_ptr(), state.len(), mode, role) }
+}
+
+pub fn receive_point(state: &mut [u8], re: i16, im: i16, answer: &mut [u8]) -> u8 {
+    let (at, len) = (answer.as_mut_ptr(), answer.len());
+    unsafe { c::kerambiu_receive_point(state.as_mut_ptr(), state.len(), re, im, at, len) }
+}
+
+pub fn receive_gap(state: &mut [u8], n: u32, answer: &mut [u8]) -> u8 {
+    let (at, len) = (answer.as_mut_ptr(), answer.len());
+    unsafe { c::kerambiu_receive_gap(state.as_mut_ptr(), state.len(), n, at, len) }
+}
+
+pub fn open(
+    state: &mut [u8],
+    mode: u8,
+    role: u8,
+    length: u32,
+    out: &mut [i16],
+    offset: usize,
+) -> u8 {
+    let (at, len) = (out.as_mut_ptr(), out.len());
+    let (state, state_len) = (state.as_mut_ptr(), state.len());
+    unsafe { c::kerambiu_open(state, state_len, mode, role, length, at, len, offset) }
+}
+
+pub fn send(state: &mut [u8], input: &[u8], out: &mut [i16], offset: usize) -> u8 {
+    let (at, len) = (out.as_mut_ptr(), out.len());
+    let (bits, bits_len) = (input.as_ptr(), input.len());
+    let (state, state_len) = (state.as_mut_ptr(), state.len());
+    unsafe { c::kerambiu_send(state, state_len, bits, bits_len, at, len, offset) }
+}
+
+pub fn make(store: &mut [u8], mode: u8, role: u8) -> u8 {
+    unsafe { c::kerambiu_make(store.as_mut_ptr(), store.len(), mode, role) }
+}
+
+pub fn append_point(store: &mut [u8], re: i16, im: i16) -> u8 {
+    unsafe { c::kerambiu_append_point(store.as_mut_ptr(), store.len(), re, im) }
+}
+
+pub fn append_lost(store: &mut [u8], n: u32) -> u8 {
+    unsafe { c::kerambiu_append_lost(store.as_mut_ptr(), store.len(), n) }
+}
+
+/// Points are re and im in turn.
+pub fn append_points(store: &mut [u8], points: &[i16]) -> u8 {
+    let (at, len) = (points.as_ptr(), points.len());
+    unsafe { c::kerambiu_append_points(store.as_mut_ptr(), store.len(), at, len) }
+}

@@ -1,0 +1,71 @@
+//! Random points: near decision edges, near sent points, and anywhere in range.
+
+use outside::mode::Mode;
+use outside::point::{self, Point};
+use outside::rng::Rng;
+
+/// The least size of a coordinate on an edge of mode 4.
+const LEVEL_EDGE: i64 = 2048;
+
+/// A point at which a decision changes, before noise and turns.
+fn edge(rng: &mut Rng, mode: u8) -> (i64, i64) {
+    let along = rng.between(0, 8190);
+    match mode {
+        1 => (along, along),
+        // tan 22.5° is 0.41421356.
+        2 if rng.below(2) == 0 => (along, along * 41_421_356 / 100_000_000),
+        2 => (along * 41_421_356 / 100_000_000, along),
+        3 => (along, 2 * along),
+        _ => match rng.below(3) {
+            0 => (along, 0),
+            1 => (LEVEL_EDGE, along),
+            _ => (along, LEVEL_EDGE),
+        },
+    }
+}
+
+fn turned((re, im): (i64, i64), quarters: u64) -> (i64, i64) {
+    (0..quarters).fold((re, im), |(re, im), _| (-im, re))
+}
+
+fn near((re, im): (i64, i64), rng: &mut Rng, noise: i64) -> Point {
+    let mut moved = |x: i64| (x + rng.between(-noise, noise)).clamp(-16384, 16384) as i16;
+    Point {
+        re: moved(re),
+        im: moved(im),
+    }
+}
+
+/// A point in range.
+pub fn in_range(rng: &mut Rng, mode: &Mode) -> Point {
+    match rng.below(4) {
+        0 => {
+            let quarters = rng.below(4);
+            let base = turned(edge(rng, mode.number), quarters);
+            near(base, rng, 2)
+        }
+        1 => {
+            let state = mode.states[rng.below(mode.states.len() as u64) as usize];
+            let sent = point::sent(mode, state);
+            near((i64::from(sent.re), i64::from(sent.im)), rng, 900)
+        }
+        2 => near((0, 0), rng, 1),
+        _ => near((0, 0), rng, 16384),
+    }
+}
+
+/// A point with a coordinate out of range.
+pub fn out_of_range(rng: &mut Rng) -> Point {
+    let far = match rng.below(4) {
+        0 => 16385,
+        1 => -16385,
+        2 => i16::MIN,
+        _ => rng.between(16385, 32767) as i16,
+    };
+    let other = rng.between(-32768, 32767) as i16;
+    if rng.below(2) == 0 {
+        Point { re: far, im: other }
+    } else {
+        Point { re: other, im: far }
+    }
+}

@@ -1,0 +1,76 @@
+//! Counts of a comparison: calls by their number, and differences.
+
+use outside::rng::Rng;
+
+/// The highest refusal number and 0, an accepted call.
+const NUMBERS: usize = 18;
+/// Differences that are printed in full.
+const SHOWN: u64 = 5;
+
+/// One of some faults, or two that differ, in either order.
+pub fn one_or_two<T: Copy>(rng: &mut Rng, all: &[T]) -> Vec<T> {
+    let first = rng.below(all.len() as u64) as usize;
+    let further = 1 + rng.below(all.len() as u64 - 1) as usize;
+    let second = (first + further) % all.len();
+    let both = [all[first], all[second]];
+    both[..1 + rng.below(2) as usize].to_vec()
+}
+
+#[derive(Default)]
+pub struct Tally {
+    counts: [u64; NUMBERS],
+    pairs: u64,
+    differences: u64,
+}
+
+impl Tally {
+    /// Counts a call by its number.
+    pub fn count(&mut self, number: u8) {
+        self.counts[usize::from(number)] += 1;
+    }
+
+    /// The lowest number of a call's faults is the one that comes.
+    pub fn expect_lowest(&mut self, faults: &[u8], number: u8) {
+        self.pairs += u64::from(faults.len() > 1);
+        let lowest = faults.iter().min().copied();
+        self.check(lowest == Some(number), || {
+            format!("{number} for the faults {faults:?}")
+        });
+    }
+
+    /// Counts a difference unless the two sides agree.
+    pub fn check(&mut self, same: bool, what: impl FnOnce() -> String) {
+        if !same {
+            self.differences += 1;
+            if self.differences <= SHOWN {
+                println!("difference: {}", what());
+            }
+        }
+    }
+
+    pub fn calls(&self) -> u64 {
+        self.counts.iter().sum()
+    }
+
+    /// Prints the counts; whether there were no differences and each of the
+    /// given numbers was reached.
+    pub fn report(&mut self, name: &str, reached: &[u8]) -> bool {
+        for &number in reached {
+            let met = self.counts[usize::from(number)] > 0;
+            self.check(met, || format!("number {number} was not reached"));
+        }
+        let refused: Vec<String> = (1..NUMBERS)
+            .filter(|&number| self.counts[number] > 0)
+            .map(|number| format!("{number}: {}", self.counts[number]))
+            .collect();
+        println!(
+            "{name}: {} calls, {} accepted, refused {{{}}}, {} with two faults, {} differences",
+            self.calls(),
+            self.counts[0],
+            refused.join(", "),
+            self.pairs,
+            self.differences
+        );
+        self.differences == 0
+    }
+}
