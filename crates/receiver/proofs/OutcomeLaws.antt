@@ -6,12 +6,13 @@ use mathlib.Core.Bool.{Bool, true, false, _&&_, cond}
 use mathlib.Core.List.{[], _∷_}
 use native.Mathlib.Omega.{arith}
 use borrow.Author.Tests.{le-leb, lt-leb}
+use lib.IntN.{ℤ}
 use lib.Dec.{T, eqb}
 use Rattle.line.specs.declared.Point.{Point}
 use Rattle.line.specs.declared.Decision.{Decision}
 use Rattle.line.specs.declared.Decision.the-variants.{State, Origin, NoSector}
 use Rattle.line.specs.Mode.{isMode, isRole, isState, width, face}
-use Rattle.line.specs.Point.{inRange}
+use Rattle.line.specs.Point.{at, inRange}
 use Rattle.line.specs.Decide.{decide}
 use Rattle.line.specs.Code.{group}
 use Rattle.line.specs.Refusal.{need, orNext, accepted}
@@ -207,16 +208,16 @@ module _ (s : Receiver) (f : ℕ) (a : f ≡ stateRefusal s) where
     unfolding outcome refusal eventRefusal eventOutcome ifRoom
     gap-some n r h q = rw (← a, z, le-leb 1 n h) (q ∙ last-room (hasRoom s n) (gapOutcome s n))
 
-    module _ (p : Point) (i : Bool) (b : i ≡ inRange p) where
-      pub point-far : i ≡ false → Refused 8 ≡ outcome s (point p)
+    -- the coordinates as they were passed on
+    module _ (re im : ℤ) (i : Bool) (re′ im′ : ℤ) (b : i ≡ inRange (at re′ im′)) (x : re′ ≡ re) (y : im′ ≡ im) where
+      pub point-far : i ≡ false → Refused 8 ≡ outcome s (point (at re im))
       unfolding outcome refusal eventRefusal
-      point-far h = rw (← a, z, ← b, h)
+      point-far h = rw (← a, z, ← x, ← y, ← b, h)
 
-      module _ (h : i ≡ true) (d : Decision) (q : d ≡ decide (s .mode) p) where
-        point-in : T (inSector d) → ifRoom s 1 (pointOutcome s d) ≡ outcome s (point p)
+      module _ (h : i ≡ true) (d : Decision) (q : d ≡ decide (s .mode) (at re′ im′)) where
+        point-in : T (inSector d) → ifRoom s 1 (pointOutcome s d) ≡ outcome s (point (at re im))
         unfolding outcome refusal eventRefusal eventOutcome ifRoom
-        point-in t =
-            rw (← a, z, ← b, h, ← q) (sectors d t)
+        point-in t = rw (← a, z, ← x, ← y, ← b, h, ← q) (sectors d t)
           where
             sectors : (d : Decision) → T (inSector d)
                 → cond (hasRoom s 1) (pointOutcome s d) (Refused 16)
@@ -225,19 +226,21 @@ module _ (s : Receiver) (f : ℕ) (a : f ≡ stateRefusal s) where
             sectors Origin t = last-room (hasRoom s 1) (pointOutcome s Origin)
             sectors NoSector t = absurd t
 
-        pub point-state : (y : ℕ) (r : Outcome) → d ≡ State y → r ≡ ifRoom s 1 (stateOutcome s (s .reference) y) → r ≡ outcome s (point p)
-        unfolding pointOutcome
-        point-state y r is e =
-            e ∙ ap (λ (t : Decision). ifRoom s 1 (pointOutcome s t)) (sym is) ∙ point-in (subst (λ (t : Decision). T (inSector t)) (sym is) tt)
+        point-as : (c : Decision) (r : Outcome) → d ≡ c → T (inSector c) → r ≡ ifRoom s 1 (pointOutcome s c) → r ≡ outcome s (point (at re im))
+        point-as c r is t e =
+            e ∙ ap (λ (u : Decision). ifRoom s 1 (pointOutcome s u)) (sym is) ∙ point-in (subst (λ (u : Decision). T (inSector u)) (sym is) t)
 
-        pub point-origin : (r : Outcome) → d ≡ Origin → r ≡ ifRoom s 1 (gapOutcome s 1) → r ≡ outcome s (point p)
+        pub point-state : (n : ℕ) (r : Outcome) → d ≡ State n → r ≡ ifRoom s 1 (stateOutcome s (s .reference) n) → r ≡ outcome s (point (at re im))
         unfolding pointOutcome
-        point-origin r is e =
-            e ∙ ap (λ (t : Decision). ifRoom s 1 (pointOutcome s t)) (sym is) ∙ point-in (subst (λ (t : Decision). T (inSector t)) (sym is) tt)
+        point-state n r is e = point-as (State n) r is tt e
 
-        pub point-nowhere : d ≡ NoSector → Refused 10 ≡ outcome s (point p)
+        pub point-origin : (r : Outcome) → d ≡ Origin → r ≡ ifRoom s 1 (gapOutcome s 1) → r ≡ outcome s (point (at re im))
+        unfolding pointOutcome
+        point-origin r is e = point-as Origin r is tt e
+
+        pub point-nowhere : d ≡ NoSector → Refused 10 ≡ outcome s (point (at re im))
         unfolding outcome refusal eventRefusal
-        point-nowhere is = rw (← a, z, ← b, h, ← q, is)
+        point-nowhere is = rw (← a, z, ← x, ← y, ← b, h, ← q, is)
 
 -- A FRESH RECEIVER
 

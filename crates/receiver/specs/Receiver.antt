@@ -27,6 +27,7 @@ receiver m role reference line place =
 unfoldable pub freshReceiver : ℕ → ℕ → Receiver
 freshReceiver m role = receiver m role none fresh 0
 
+-- a point, or a gap of n intervals
 pub data Event : Type 0 where
   point : Point → Event
   gap : ℕ → Event
@@ -36,7 +37,7 @@ pub data Event : Type 0 where
 unfoldable pub isFresh : Register → Bool
 isFresh h = eqb (h .bits) 0 && eqb (h .held .0) 0
 
--- number 4: the reference a state of the mode, at most R line bits, and none without a reference
+-- number 4: the reference is a state of the mode, with at most R line bits; without a reference there are none
 unfoldable pub fieldsOk : ℕ → Reference → Register → Bool
 fieldsOk m none h = isFresh h
 fieldsOk m (some x) h = isState m x && registerOk m h
@@ -67,6 +68,7 @@ refusal s e = orNext (stateRefusal s) (eventRefusal s e)
 
 -- THE ANSWER
 
+-- a refusal's number; the reference alone; line bits and data bits, first in time first; a gap and its intervals
 pub data Answer : Type 0 where
   refused : ℕ → Answer
   reference : Answer
@@ -82,7 +84,7 @@ unfoldable pub stateAnswer : Receiver → Reference → ℕ → Answer
 stateAnswer s none y = reference
 stateAnswer s (some x) y = decoded (lineBits (s .mode) x y) (descramble (s .mode) (s .role) (s .line) (lineBits (s .mode) x y))
 
--- the origin is a gap of one interval
+-- the origin is a gap of one interval; a point in no sector never comes here, since number 10 refuses it
 unfoldable pub pointAnswer : Receiver → Decision → Answer
 pointAnswer s (State y) = stateAnswer s (s .reference) y
 pointAnswer s Origin = lost 1

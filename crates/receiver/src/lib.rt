@@ -15,7 +15,7 @@ pub enum Reference {
     State(u8),
 }
 
-// The line bits since the last gap and the place, in unit intervals.
+// A receiver's state: `line` holds the line bits since the last gap, `place` counts the unit intervals so far.
 pub struct Receiver {
     pub mode: u8,
     pub role: u8,
@@ -40,6 +40,7 @@ pub enum Outcome {
     Gap(Intervals, Receiver),
 }
 
+// A receiver just made, or the number that refuses its mode or role.
 pub enum Started {
     Refused(u8),
     Ready(Receiver),

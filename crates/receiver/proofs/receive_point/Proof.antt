@@ -1,6 +1,4 @@
 use Rattle.receiver.proofs.OutcomeLaws.{both, outcome-fault, point-far, point-state, point-origin, point-nowhere}
-use Rattle.line.specs.Point.{at}
-use mir.Facts.{toZ-ofZ}
 use borrow.Author.Needs.{needs}
 use Rattle.receiver.proofs.receive_point.Statement.{statement}
 use Rattle.receiver.proofs.receive_point.Tie as tie
@@ -40,16 +38,16 @@ enum-told-2 : tie.Need-enum-told-2
 enum-told-2 c = search needs
 
 returns-2 : tie.Need-returns-2
-returns-2 c = let a = c .before .before .before .before .before .before .before .before .before .args in let f = c .before .before .before .before .before .before .before .before .before .fits in both _ _ _ (point-state (a .s) _ (c .before .before .before .before .before .before .before .before .state-fault .ensures) (c .before .before .before .before .before .before .before .if1 .left) (at (a .re) (a .im)) _ (rw (toZ-ofZ (f .re), toZ-ofZ (f .im)) at (c .before .before .before .before .before .before .in-range .ensures)) (c .before .before .before .before .before .if2 .taken) _ (rw (toZ-ofZ (f .re), toZ-ofZ (f .im)) at (c .before .before .before .before .decide .ensures)) _ _ (search needs) (c .take-state .ensures))
+returns-2 c = both _ _ _ (search (point-state, needs))
 
 returns-3 : tie.Need-returns-3
-returns-3 c = let a = c .before .before .before .before .before .before .before .before .args in let f = c .before .before .before .before .before .before .before .before .fits in both _ _ _ (point-origin (a .s) _ (c .before .before .before .before .before .before .before .state-fault .ensures) (c .before .before .before .before .before .before .if1 .left) (at (a .re) (a .im)) _ (rw (toZ-ofZ (f .re), toZ-ofZ (f .im)) at (c .before .before .before .before .before .in-range .ensures)) (c .before .before .before .before .if2 .taken) _ (rw (toZ-ofZ (f .re), toZ-ofZ (f .im)) at (c .before .before .before .decide .ensures)) _ (search needs) (c .lose .ensures))
+returns-3 c = both _ _ _ (search (point-origin, needs))
 
 returns-4 : tie.Need-returns-4
-returns-4 c = let a = c .before .before .before .before .before .before .before .args in let f = c .before .before .before .before .before .before .before .fits in both _ _ _ (point-nowhere (a .s) _ (c .before .before .before .before .before .before .state-fault .ensures) (c .before .before .before .before .before .if1 .left) (at (a .re) (a .im)) _ (rw (toZ-ofZ (f .re), toZ-ofZ (f .im)) at (c .before .before .before .before .in-range .ensures)) (c .before .before .before .if2 .taken) _ (rw (toZ-ofZ (f .re), toZ-ofZ (f .im)) at (c .before .before .decide .ensures)) (search needs))
+returns-4 c = both _ _ _ (search (point-nowhere, needs))
 
 returns-5 : tie.Need-returns-5
-returns-5 c = let a = c .before .before .before .before .args in let f = c .before .before .before .before .fits in both _ _ _ (point-far (a .s) _ (c .before .before .before .state-fault .ensures) (c .before .before .if1 .left) (at (a .re) (a .im)) _ (rw (toZ-ofZ (f .re), toZ-ofZ (f .im)) at (c .before .in-range .ensures)) (c .if2 .left))
+returns-5 c = both _ _ _ (search (point-far, needs))
 
 pub receive-point-spec : {M : Type 1} → statement M
 receive-point-spec =
