@@ -1,2 +1,3 @@
 pub mod Receivings
 pub mod Sendings
+pub mod Back
