@@ -1,11 +1,11 @@
-use Rattle.capi.proofs.Receivings.{fresh-refused, fresh-short, fresh-done}
+use Rattle.lent.proofs.Receivings.{fresh-refused, fresh-short, fresh-done}
 use denote.Ref.{now}
 use borrow.Author.Needs.{needs}
 use Rattle.capi.proofs.kerambiu_fresh.Statement.{statement}
 use Rattle.capi.proofs.kerambiu_fresh.Tie as tie
 use Rattle.capi.proofs.kerambiu_fresh.Reads as reads
 use Rattle.capi.proofs.kerambiu_fresh.Lts as lts
-use Rattle.capi.proofs.receiver_bytes.Reads as receiver-bytes-reads
+use Rattle.lent.proofs.receiver_bytes.Reads as receiver-bytes-reads
 use Rattle.octets.proofs.put_all.Reads as put-all-reads
 use Rattle.receiver.proofs.fresh.Reads as fresh-reads
 

@@ -1,11 +1,11 @@
-use Rattle.capi.proofs.Sendings.{open-short, open-done}
+use Rattle.lent.proofs.Sendings.{open-short, open-done}
 use denote.Ref.{now}
 use borrow.Author.Needs.{needs}
 use Rattle.capi.proofs.kerambiu_open.Statement.{statement}
 use Rattle.capi.proofs.kerambiu_open.Tie as tie
 use Rattle.capi.proofs.kerambiu_open.Reads as reads
 use Rattle.capi.proofs.kerambiu_open.Lts as lts
-use Rattle.capi.proofs.put_sent.Reads as put-sent-reads
+use Rattle.lent.proofs.put_sent.Reads as put-sent-reads
 use Rattle.sender.proofs.open.Reads as open-reads
 
 add-past : tie.Need-add-past

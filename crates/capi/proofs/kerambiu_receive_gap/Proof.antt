@@ -1,13 +1,13 @@
 use Rattle.receiver.specs.Receiver.{gap}
-use Rattle.capi.proofs.Receivings.{call-short, call-done}
+use Rattle.lent.proofs.Receivings.{call-short, call-done}
 use denote.Ref.{now}
 use borrow.Author.Needs.{needs}
 use Rattle.capi.proofs.kerambiu_receive_gap.Statement.{statement}
 use Rattle.capi.proofs.kerambiu_receive_gap.Tie as tie
 use Rattle.capi.proofs.kerambiu_receive_gap.Reads as reads
 use Rattle.capi.proofs.kerambiu_receive_gap.Lts as lts
-use Rattle.capi.proofs.hand_back.Reads as hand-back-reads
-use Rattle.capi.proofs.load_receiver.Reads as load-receiver-reads
+use Rattle.lent.proofs.hand_back.Reads as hand-back-reads
+use Rattle.lent.proofs.load_receiver.Reads as load-receiver-reads
 use Rattle.receiver.proofs.receive_gap.Reads as receive-gap-reads
 
 returns : tie.Need-returns

@@ -1,4 +1,4 @@
-use Rattle.capi.proofs.Receivings.{call-short, call-done}
+use Rattle.lent.proofs.Receivings.{call-short, call-done}
 use denote.Ref.{now}
 use mir.Facts.{toZ-ofZ}
 use Rattle.line.specs.Point.{at}
@@ -8,8 +8,8 @@ use Rattle.capi.proofs.kerambiu_receive_point.Statement.{statement}
 use Rattle.capi.proofs.kerambiu_receive_point.Tie as tie
 use Rattle.capi.proofs.kerambiu_receive_point.Reads as reads
 use Rattle.capi.proofs.kerambiu_receive_point.Lts as lts
-use Rattle.capi.proofs.hand_back.Reads as hand-back-reads
-use Rattle.capi.proofs.load_receiver.Reads as load-receiver-reads
+use Rattle.lent.proofs.hand_back.Reads as hand-back-reads
+use Rattle.lent.proofs.load_receiver.Reads as load-receiver-reads
 use Rattle.receiver.proofs.receive_point.Reads as receive-point-reads
 
 returns : tie.Need-returns

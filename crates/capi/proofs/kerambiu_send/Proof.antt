@@ -1,12 +1,12 @@
-use Rattle.capi.proofs.Sendings.{send-short, send-done}
+use Rattle.lent.proofs.Sendings.{send-short, send-done}
 use denote.Ref.{now}
 use borrow.Author.Needs.{needs}
 use Rattle.capi.proofs.kerambiu_send.Statement.{statement}
 use Rattle.capi.proofs.kerambiu_send.Tie as tie
 use Rattle.capi.proofs.kerambiu_send.Reads as reads
 use Rattle.capi.proofs.kerambiu_send.Lts as lts
-use Rattle.capi.proofs.load_sender.Reads as load-sender-reads
-use Rattle.capi.proofs.put_sent.Reads as put-sent-reads
+use Rattle.lent.proofs.load_sender.Reads as load-sender-reads
+use Rattle.lent.proofs.put_sent.Reads as put-sent-reads
 use Rattle.sender.proofs.send.Reads as send-reads
 
 returns : tie.Need-returns

@@ -25,7 +25,7 @@ use Rattle.receiver.specs.declared.Started.the-variants.{Refused as NotStarted,
 use Rattle.receiver.specs.Receiver.{Event, point, gap, freshReceiver, freshRefusal, stateRefusal, inSector, refusal, stateNext, pointNext, eventNext, next}
 use Rattle.receiver.specs.Outcome.{stateOutcome, pointOutcome, eventOutcome, outcome, started}
 use Rattle.receiver.proofs.OutcomeLaws.{in-sector}
-use Rattle.capi.specs.Receiving.{referenceIn, receiverIn, receiverOut, answerBytes, answerOut, holdsState, holdsAnswer, freshNumber, freshState, atMost7, callNumber, callState, callAnswer, numberOut, stateAfter, answerAfter, handedNumber, handedState, handedAnswer}
+use Rattle.lent.specs.Receiving.{referenceIn, receiverIn, receiverOut, answerBytes, answerOut, holdsState, holdsAnswer, freshNumber, freshState, atMost7, callNumber, callState, callAnswer, numberOut, stateAfter, answerAfter, handedNumber, handedState, handedAnswer}
 
 -- THE BYTES OF A REFERENCE
 

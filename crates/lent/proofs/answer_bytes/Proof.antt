@@ -1,10 +1,10 @@
-use Rattle.capi.specs.Receiving.{answerBytes}
+use Rattle.lent.specs.Receiving.{answerBytes}
 use mathlib.Core.Path.{refl}
 use borrow.Author.Needs.{needs}
-use Rattle.capi.proofs.answer_bytes.Statement.{statement}
-use Rattle.capi.proofs.answer_bytes.Tie as tie
-use Rattle.capi.proofs.answer_bytes.Reads as reads
-use Rattle.capi.proofs.answer_bytes.Lts as lts
+use Rattle.lent.proofs.answer_bytes.Statement.{statement}
+use Rattle.lent.proofs.answer_bytes.Tie as tie
+use Rattle.lent.proofs.answer_bytes.Reads as reads
+use Rattle.lent.proofs.answer_bytes.Lts as lts
 
 cast-t8 : tie.Need-cast-t8
 cast-t8 c = search needs

@@ -1,9 +1,9 @@
 use Rattle.line.proofs.Tests.{tests}
-use Rattle.capi.specs.Receiving.{atMost7}
-use Rattle.capi.proofs.at_most_7.Statement.{statement}
-use Rattle.capi.proofs.at_most_7.Tie as tie
-use Rattle.capi.proofs.at_most_7.Reads as reads
-use Rattle.capi.proofs.at_most_7.Lts as lts
+use Rattle.lent.specs.Receiving.{atMost7}
+use Rattle.lent.proofs.at_most_7.Statement.{statement}
+use Rattle.lent.proofs.at_most_7.Tie as tie
+use Rattle.lent.proofs.at_most_7.Reads as reads
+use Rattle.lent.proofs.at_most_7.Lts as lts
 
 returns : tie.Need-returns
 unfolding atMost7

@@ -1,10 +1,10 @@
-use Rattle.capi.proofs.Receivings.{read-state, read-none, read-neither}
+use Rattle.lent.proofs.Receivings.{read-state, read-none, read-neither}
 use borrow.Author.Needs.{needs}
-use Rattle.capi.proofs.load_reference.Statement.{statement}
-use Rattle.capi.proofs.load_reference.Tie as tie
-use Rattle.capi.proofs.load_reference.Reads as reads
-use Rattle.capi.proofs.load_reference.Lts as lts
-use Rattle.capi.proofs.byte_at.Reads as byte-at-reads
+use Rattle.lent.proofs.load_reference.Statement.{statement}
+use Rattle.lent.proofs.load_reference.Tie as tie
+use Rattle.lent.proofs.load_reference.Reads as reads
+use Rattle.lent.proofs.load_reference.Lts as lts
+use Rattle.lent.proofs.byte_at.Reads as byte-at-reads
 
 byte-at-requires : tie.Need-byte-at-requires
 byte-at-requires c κs = search needs

@@ -1,11 +1,11 @@
-use Rattle.capi.specs.Sending.{senderIn}
+use Rattle.lent.specs.Sending.{senderIn}
 use borrow.Author.Needs.{needs}
-use Rattle.capi.proofs.load_sender.Statement.{statement}
-use Rattle.capi.proofs.load_sender.Tie as tie
-use Rattle.capi.proofs.load_sender.Reads as reads
-use Rattle.capi.proofs.load_sender.Lts as lts
-use Rattle.capi.proofs.byte_at.Reads as byte-at-reads
-use Rattle.capi.proofs.load_sent_reference.Reads as load-sent-reference-reads
+use Rattle.lent.proofs.load_sender.Statement.{statement}
+use Rattle.lent.proofs.load_sender.Tie as tie
+use Rattle.lent.proofs.load_sender.Reads as reads
+use Rattle.lent.proofs.load_sender.Lts as lts
+use Rattle.lent.proofs.byte_at.Reads as byte-at-reads
+use Rattle.lent.proofs.load_sent_reference.Reads as load-sent-reference-reads
 use Rattle.octets.proofs.get32.Reads as get32-reads
 
 byte-at-requires : tie.Need-byte-at-requires

@@ -1,10 +1,10 @@
-use Rattle.capi.proofs.Sendings.{read-sent, read-unsent}
+use Rattle.lent.proofs.Sendings.{read-sent, read-unsent}
 use borrow.Author.Needs.{needs}
-use Rattle.capi.proofs.load_sent_reference.Statement.{statement}
-use Rattle.capi.proofs.load_sent_reference.Tie as tie
-use Rattle.capi.proofs.load_sent_reference.Reads as reads
-use Rattle.capi.proofs.load_sent_reference.Lts as lts
-use Rattle.capi.proofs.byte_at.Reads as byte-at-reads
+use Rattle.lent.proofs.load_sent_reference.Statement.{statement}
+use Rattle.lent.proofs.load_sent_reference.Tie as tie
+use Rattle.lent.proofs.load_sent_reference.Reads as reads
+use Rattle.lent.proofs.load_sent_reference.Lts as lts
+use Rattle.lent.proofs.byte_at.Reads as byte-at-reads
 use Rattle.octets.proofs.get32.Reads as get32-reads
 
 byte-at-requires : tie.Need-byte-at-requires

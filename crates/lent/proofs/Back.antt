@@ -13,8 +13,8 @@ use Rattle.receiver.specs.declared.Reference.the-variants.{Nothing as none, Sta
 use Rattle.receiver.specs.declared.Receiver.{Receiver}
 use Rattle.receiver.specs.Receiver.{receiver}
 use Rattle.sender.specs.declared.Sender.{Sender}
-use Rattle.capi.specs.Receiving.{referenceIn, receiverIn, receiverOut}
-use Rattle.capi.specs.Sending.{sentReference, senderIn, senderOut}
+use Rattle.lent.specs.Receiving.{referenceIn, receiverIn, receiverOut}
+use Rattle.lent.specs.Sending.{sentReference, senderIn, senderOut}
 
 -- only the first 16 bytes are read
 module _ (s v : List ℕ) (g : (k : ℕ) → k < 16 → getD s k 0 ≡ getD v k 0) where

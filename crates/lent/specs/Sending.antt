@@ -18,7 +18,7 @@ use Rattle.sender.specs.declared.Sent.{Sent}
 use Rattle.sender.specs.declared.Sent.the-variants.{Refused, Ready}
 use Rattle.sender.specs.Sender.{grouped, afterGroups, sentStates, sendRefusal}
 use Rattle.sender.specs.Open.{openRefusal, opened, trainingNumbers}
-use Rattle.capi.specs.Receiving.{holdsState}
+use Rattle.lent.specs.Receiving.{holdsState}
 
 -- bytes 3 and 9 to 15 that are not zero read as a reference that is no state, which number 4 refuses
 unfoldable pub sentReference : List ℕ → ℕ

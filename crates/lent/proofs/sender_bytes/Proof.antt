@@ -1,10 +1,10 @@
 use mathlib.Core.Path.{refl}
-use Rattle.capi.specs.Sending.{senderOut}
+use Rattle.lent.specs.Sending.{senderOut}
 use borrow.Author.Needs.{needs}
-use Rattle.capi.proofs.sender_bytes.Statement.{statement}
-use Rattle.capi.proofs.sender_bytes.Tie as tie
-use Rattle.capi.proofs.sender_bytes.Reads as reads
-use Rattle.capi.proofs.sender_bytes.Lts as lts
+use Rattle.lent.proofs.sender_bytes.Statement.{statement}
+use Rattle.lent.proofs.sender_bytes.Tie as tie
+use Rattle.lent.proofs.sender_bytes.Reads as reads
+use Rattle.lent.proofs.sender_bytes.Lts as lts
 
 cast-t5 : tie.Need-cast-t5
 cast-t5 c = search needs

@@ -1,11 +1,11 @@
-use Rattle.capi.specs.Receiving.{receiverOut}
+use Rattle.lent.specs.Receiving.{receiverOut}
 use borrow.Author.Needs.{needs}
-use Rattle.capi.proofs.receiver_bytes.Statement.{statement}
-use Rattle.capi.proofs.receiver_bytes.Tie as tie
-use Rattle.capi.proofs.receiver_bytes.Reads as reads
-use Rattle.capi.proofs.receiver_bytes.Lts as lts
-use Rattle.capi.proofs.presence.Reads as presence-reads
-use Rattle.capi.proofs.state_byte.Reads as state-byte-reads
+use Rattle.lent.proofs.receiver_bytes.Statement.{statement}
+use Rattle.lent.proofs.receiver_bytes.Tie as tie
+use Rattle.lent.proofs.receiver_bytes.Reads as reads
+use Rattle.lent.proofs.receiver_bytes.Lts as lts
+use Rattle.lent.proofs.presence.Reads as presence-reads
+use Rattle.lent.proofs.state_byte.Reads as state-byte-reads
 
 presence-requires : tie.Need-presence-requires
 presence-requires c κs = search needs

@@ -1,11 +1,11 @@
-use Rattle.capi.specs.Receiving.{receiverIn}
+use Rattle.lent.specs.Receiving.{receiverIn}
 use borrow.Author.Needs.{needs}
-use Rattle.capi.proofs.load_receiver.Statement.{statement}
-use Rattle.capi.proofs.load_receiver.Tie as tie
-use Rattle.capi.proofs.load_receiver.Reads as reads
-use Rattle.capi.proofs.load_receiver.Lts as lts
-use Rattle.capi.proofs.byte_at.Reads as byte-at-reads
-use Rattle.capi.proofs.load_reference.Reads as load-reference-reads
+use Rattle.lent.proofs.load_receiver.Statement.{statement}
+use Rattle.lent.proofs.load_receiver.Tie as tie
+use Rattle.lent.proofs.load_receiver.Reads as reads
+use Rattle.lent.proofs.load_receiver.Lts as lts
+use Rattle.lent.proofs.byte_at.Reads as byte-at-reads
+use Rattle.lent.proofs.load_reference.Reads as load-reference-reads
 use Rattle.octets.proofs.get32.Reads as get32-reads
 
 load-reference-requires : tie.Need-load-reference-requires

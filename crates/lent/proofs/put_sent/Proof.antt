@@ -1,11 +1,11 @@
-use Rattle.capi.proofs.Sendings.{put-ready}
+use Rattle.lent.proofs.Sendings.{put-ready}
 use denote.Ref.{now}
 use borrow.Author.Needs.{needs}
-use Rattle.capi.proofs.put_sent.Statement.{statement}
-use Rattle.capi.proofs.put_sent.Tie as tie
-use Rattle.capi.proofs.put_sent.Reads as reads
-use Rattle.capi.proofs.put_sent.Lts as lts
-use Rattle.capi.proofs.sender_bytes.Reads as sender-bytes-reads
+use Rattle.lent.proofs.put_sent.Statement.{statement}
+use Rattle.lent.proofs.put_sent.Tie as tie
+use Rattle.lent.proofs.put_sent.Reads as reads
+use Rattle.lent.proofs.put_sent.Lts as lts
+use Rattle.lent.proofs.sender_bytes.Reads as sender-bytes-reads
 use Rattle.octets.proofs.put_all.Reads as put-all-reads
 
 enum-known-sent : tie.Need-enum-known-sent

@@ -1,14 +1,14 @@
-use Rattle.capi.proofs.Receivings.{handed-short, handed-refused, handed-reference, handed-bits, handed-gap}
+use Rattle.lent.proofs.Receivings.{handed-short, handed-refused, handed-reference, handed-bits, handed-gap}
 use denote.Ref.{now}
 use borrow.Author.Needs.{needs}
-use Rattle.capi.proofs.hand_back.Statement.{statement}
-use Rattle.capi.proofs.hand_back.Tie as tie
-use Rattle.capi.proofs.hand_back.Reads as reads
-use Rattle.capi.proofs.hand_back.Lts as lts
-use Rattle.capi.proofs.answer_bytes.Reads as answer-bytes-reads
-use Rattle.capi.proofs.at_most_7.Reads as at-most-7-reads
-use Rattle.capi.proofs.number_of.Reads as number-of-reads
-use Rattle.capi.proofs.receiver_bytes.Reads as receiver-bytes-reads
+use Rattle.lent.proofs.hand_back.Statement.{statement}
+use Rattle.lent.proofs.hand_back.Tie as tie
+use Rattle.lent.proofs.hand_back.Reads as reads
+use Rattle.lent.proofs.hand_back.Lts as lts
+use Rattle.lent.proofs.answer_bytes.Reads as answer-bytes-reads
+use Rattle.lent.proofs.at_most_7.Reads as at-most-7-reads
+use Rattle.lent.proofs.number_of.Reads as number-of-reads
+use Rattle.lent.proofs.receiver_bytes.Reads as receiver-bytes-reads
 use Rattle.octets.proofs.put_all.Reads as put-all-reads
 
 number-of-requires : tie.Need-number-of-requires

@@ -18,7 +18,7 @@ use Rattle.sender.specs.declared.Sent.{Sent}
 use Rattle.sender.specs.declared.Sent.the-variants.{Refused, Ready}
 use Rattle.sender.specs.Sender.{hasRoom, grouped, afterGroups, sendRefusal, sendAnswer, sendNumbers}
 use Rattle.sender.specs.Open.{lengthOk, openRefusal, opened, trainingNumbers, openAnswer, openNumbers}
-use Rattle.capi.specs.Sending.{sentReference, senderIn, senderOut, openNumber, openState, openOut, sendNumber, sendState, sendOut, sentNumber, sentState}
+use Rattle.lent.specs.Sending.{sentReference, senderIn, senderOut, openNumber, openState, openOut, sendNumber, sendState, sendOut, sentNumber, sentState}
 
 -- THE BYTES OF A REFERENCE
 
