@@ -6,6 +6,9 @@ ghost use Rattle.track.specs.Append.{makeNumber, makeResult, lostNumber, lostRe
 ghost use Rattle.track.specs.Points.{pointsNumber, pointsResult};
 ghost use Rattle.lent.specs.Receiving.{freshNumber, freshState, callNumber, callState, callAnswer};
 ghost use Rattle.lent.specs.Sending.{openNumber, openState, openOut, sendNumber, sendState, sendOut};
+ghost use lib.ListN.{length};
+ghost use Rattle.store.specs.Reading.{readNumber, readCount, readResult};
+ghost use Rattle.capi.specs.Counted.{countedNumber, countedOut, countedCounts};
 use lent::hand_back;
 use lent::load_receiver;
 use lent::load_sender;
@@ -132,4 +135,25 @@ pub extern "C" fn kerambiu_append_points(store: &mut [u8], points: &[i16]) -> u8
     ensures { λ r. ⌜ (r ≡ pointsNumber (now (store .entry)) (now (points .entry))) × (now (store .exit) ≡ pointsResult (now (store .entry)) (now (points .entry))) ⌝ }
 {
     track::append_points(store, points)
+}
+
+// Reads all events, three numbers for each, into `out` from `offset` on, and how many there are into `count`: 0, or the number
+// that refuses it.
+#[no_mangle]
+pub extern "C" fn kerambiu_read(
+    store: &[u8],
+    out: &mut [i64],
+    offset: usize,
+    count: &mut [usize],
+) -> u8
+    ensures { λ r. ⌜ (r ≡ countedNumber (now (count .entry)) (readNumber (now (store .entry)) (length (now (out .entry))) offset)) × (now (out .exit) ≡ countedOut (now (count .entry)) (readResult (now (store .entry)) (now (out .entry)) offset) (now (out .entry))) × (now (count .exit) ≡ countedCounts (now (count .entry)) (readNumber (now (store .entry)) (length (now (out .entry))) offset) (readCount (now (store .entry)) (length (now (out .entry))) offset)) ⌝ }
+{
+    if count.len() < 1 {
+        return 7;
+    }
+    let reading = track::read(store, out, offset);
+    if reading.number == 0 {
+        count[0] = reading.count;
+    }
+    reading.number
 }
