@@ -14,8 +14,8 @@
  *    4  a handed-in state with another field outside its range, or a byte of its layout that is not as below
  *    5  a data byte above 1
  *    6  data bits not a multiple of w, the mode's bits in a point
- *    7  lent numbers too few from the offset, or an offset past their end; fewer lent bytes than a state or an answer has;
- *       a last number to append without its partner
+ *    7  lent numbers too few from the offset, or an offset past their end; fewer lent bytes than a state, an answer, a
+ *       block or a listing has; no lent number for a count; a last number of points without its partner
  *    8  a coordinate outside -16384 to 16384
  *    9  a gap, or a lost count to append, of 0
  *   10  a mode 2 point off the origin in none of the eight sectors
@@ -78,6 +78,20 @@ uint8_t kerambiu_receive_point(uint8_t *state, size_t state_len, int16_t re, int
 uint8_t kerambiu_receive_gap(uint8_t *state, size_t state_len, uint32_t n, uint8_t *answer, size_t answer_len);
 
 /*
+ * Takes a block of points, re and im in turn, all or none: as one kerambiu_receive_point after the other. For each point a byte
+ * is written into `line` and one into `plain`; lent bytes beyond the points stay as they are.
+ *   line    the line bits, a number with the first in time highest (0 to 15); KERAMBIU_REFERENCE for a point that became the
+ *           reference, KERAMBIU_ORIGIN for one at the origin, a gap of one interval
+ *   plain   the data bits likewise, an unsettled one being 0, plus 16 times the count of unsettled ones, the first in time;
+ *           0 beside KERAMBIU_REFERENCE and KERAMBIU_ORIGIN
+ * Refuses by 1, 2, 4, 7, 8, 10 and 16.
+ */
+#define KERAMBIU_REFERENCE 16
+#define KERAMBIU_ORIGIN 17
+uint8_t kerambiu_receive_points(uint8_t *state, size_t state_len, const int16_t *points, size_t points_len, uint8_t *line,
+                                size_t line_len, uint8_t *plain, size_t plain_len);
+
+/*
  * Opens a sender: writes the points of its training, re and im in turn, into the lent numbers from the offset on, and the state
  * after it. Refuses by 1, 2, 3 and 7. The length is 0 or 1 in modes 1 and 2, which take 80 or 1132 points; in modes 3 and 4 it
  * is the intervals of the third segment, and the points are 272 more.
@@ -112,6 +126,22 @@ uint8_t kerambiu_append_lost(uint8_t *store, size_t store_len, uint32_t n);
  * would be refused. Refuses by 7, 8 and 11 to 17; without points there is nothing to refuse.
  */
 uint8_t kerambiu_append_points(uint8_t *store, size_t store_len, const int16_t *points, size_t points_len);
+
+/*
+ * Reads all events in chain order into the lent numbers from the offset on, three to an event: 1, re, im for a point, 2, the
+ * count, 0 for lost intervals. count[0] becomes how many events there are. Refuses by 7 and 11 to 15; whether the lent numbers
+ * are too few is judged only of a store that 11 to 15 let pass.
+ */
+uint8_t kerambiu_read(const uint8_t *store, size_t store_len, int64_t *out, size_t out_len, size_t offset, size_t *count,
+                      size_t count_len);
+
+/*
+ * Writes the listing of a store into the lent bytes; count[0] becomes how many bytes the text has. A store that is refused has
+ * the one line `refused N` for its listing, so only 7 refuses the call: fewer than KERAMBIU_LISTING_BYTES lent bytes, more than
+ * any listing takes, or no lent number for the count.
+ */
+#define KERAMBIU_LISTING_BYTES 400000
+uint8_t kerambiu_list(const uint8_t *store, size_t store_len, uint8_t *out, size_t out_len, size_t *count, size_t count_len);
 
 #ifdef __cplusplus
 }

@@ -127,3 +127,52 @@ fn take_state(
     };
     Ok((answer, next))
 }
+
+/// The byte of line bits of a point that became the reference, and of one at
+/// the origin: no group of line bits has these numbers.
+pub const REFERENCE_BYTE: u8 = 16;
+pub const GAP_BYTE: u8 = 17;
+
+/// Takes points, re and im in turn, all or none. For each a byte of line bits
+/// and a byte of data bits is written, the latter with 16 times the count of
+/// unsettled ones added. Refuses by 1, 2, 4, 7, 8, 10 and 16.
+pub fn receive_points(
+    state: Receiver,
+    points: &[i16],
+    line: &mut [u8],
+    plain: &mut [u8],
+) -> Result<Receiver, Refusal> {
+    let (mode, scrambler) = checked(&state)?;
+    let count = points.len() / 2;
+    let lent = points.len() % 2 == 0 && line.len() >= count && plain.len() >= count;
+    need(lent, Refusal::LENT_NUMBERS)?;
+    let in_range = |x: &i16| (-16384..=16384).contains(x);
+    need(points.iter().all(in_range), Refusal::COORDINATE)?;
+    let left = (u32::MAX - state.place.0) as usize;
+    need(count <= left, Refusal::TOO_LONG)?;
+    let mut next = state;
+    let bytes = line.iter_mut().zip(plain.iter_mut());
+    for (pair, (line, plain)) in points.chunks_exact(2).zip(bytes) {
+        let (answer, after) = match point::decide(mode, pair[0], pair[1]) {
+            Decision::State(decided) => take_state(next, mode, scrambler, decided)?,
+            Decision::Origin => pass_gap(next, UnitIntervals(1))?,
+            // No square is twice a square, so no whole numbers come here.
+            Decision::NoSector => return Err(Refusal::NO_SECTOR),
+        };
+        (*line, *plain) = block_bytes(mode.width, answer);
+        next = after;
+    }
+    Ok(next)
+}
+
+fn block_bytes(width: u32, answer: Answer) -> (u8, u8) {
+    match answer {
+        Answer::Reference => (REFERENCE_BYTE, 0),
+        Answer::Gap(_) => (GAP_BYTE, 0),
+        Answer::Bits {
+            line,
+            plain,
+            settled,
+        } => (line, plain + 16 * (width - settled.count_ones()) as u8),
+    }
+}

@@ -1,7 +1,9 @@
 //! The proved library, called through its C functions, and what the comparison
 //! programs share.
 
+pub mod blocks;
 pub mod layout;
+pub mod listing;
 pub mod ours;
 pub mod points;
 pub mod receiving;

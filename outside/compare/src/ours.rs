@@ -1,6 +1,9 @@
 //! The proved library's C functions, as calls on slices. Each gives 0 or the
 //! number that refuses the call.
 
+/// The lent bytes that a listing takes (KERAMBIU_LISTING_BYTES).
+pub const LISTING_BYTES: usize = 400_000;
+
 mod c {
     #[link(name = "capi", kind = "static")]
     extern "C" {
@@ -19,6 +22,16 @@ mod c {
             n: u32,
             answer: *mut u8,
             answer_len: usize,
+        ) -> u8;
+        pub fn kerambiu_receive_points(
+            state: *mut u8,
+            state_len: usize,
+            points: *const i16,
+            points_len: usize,
+            line: *mut u8,
+            line_len: usize,
+            plain: *mut u8,
+            plain_len: usize,
         ) -> u8;
         pub fn kerambiu_open(
             state: *mut u8,
@@ -48,6 +61,23 @@ mod c {
             points: *const i16,
             points_len: usize,
         ) -> u8;
+        pub fn kerambiu_read(
+            store: *const u8,
+            store_len: usize,
+            out: *mut i64,
+            out_len: usize,
+            offset: usize,
+            count: *mut usize,
+            count_len: usize,
+        ) -> u8;
+        pub fn kerambiu_list(
+            store: *const u8,
+            store_len: usize,
+            out: *mut u8,
+            out_len: usize,
+            count: *mut usize,
+            count_len: usize,
+        ) -> u8;
     }
 }
 
@@ -66,6 +96,20 @@ pub fn receive_point(state: &mut [u8], re: i16, im: i16, answer: &mut [u8]) -> u
 pub fn receive_gap(state: &mut [u8], n: u32, answer: &mut [u8]) -> u8 {
     let (at, len) = (answer.as_mut_ptr(), answer.len());
     unsafe { c::kerambiu_receive_gap(state.as_mut_ptr(), state.len(), n, at, len) }
+}
+
+/// Points are re and im in turn; a byte of line bits and one of data bits for
+/// each.
+pub fn receive_points(state: &mut [u8], points: &[i16], line: &mut [u8], plain: &mut [u8]) -> u8 {
+    let (from, count) = (points.as_ptr(), points.len());
+    let (lines, lines_len) = (line.as_mut_ptr(), line.len());
+    let (plains, plains_len) = (plain.as_mut_ptr(), plain.len());
+    let (state, state_len) = (state.as_mut_ptr(), state.len());
+    unsafe {
+        c::kerambiu_receive_points(
+            state, state_len, from, count, lines, lines_len, plains, plains_len,
+        )
+    }
 }
 
 pub fn open(
@@ -104,4 +148,28 @@ pub fn append_lost(store: &mut [u8], n: u32) -> u8 {
 pub fn append_points(store: &mut [u8], points: &[i16]) -> u8 {
     let (at, len) = (points.as_ptr(), points.len());
     unsafe { c::kerambiu_append_points(store.as_mut_ptr(), store.len(), at, len) }
+}
+
+/// Three numbers an event; the count of events stands in `count`.
+pub fn read(store: &[u8], out: &mut [i64], offset: usize, count: &mut [usize]) -> u8 {
+    let (at, len) = (out.as_mut_ptr(), out.len());
+    let (counts, counts_len) = (count.as_mut_ptr(), count.len());
+    unsafe {
+        c::kerambiu_read(
+            store.as_ptr(),
+            store.len(),
+            at,
+            len,
+            offset,
+            counts,
+            counts_len,
+        )
+    }
+}
+
+/// The listing's bytes; how many there are stands in `count`.
+pub fn list(store: &[u8], out: &mut [u8], count: &mut [usize]) -> u8 {
+    let (at, len) = (out.as_mut_ptr(), out.len());
+    let (counts, counts_len) = (count.as_mut_ptr(), count.len());
+    unsafe { c::kerambiu_list(store.as_ptr(), store.len(), at, len, counts, counts_len) }
 }

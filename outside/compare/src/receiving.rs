@@ -13,6 +13,7 @@ use crate::{ours, points};
 
 /// Bytes of an answer before a call, to show what a call leaves.
 const UNWRITTEN: u8 = 0xa5;
+const SEED: u64 = 1;
 
 #[derive(Clone, Copy)]
 enum Event {
@@ -48,13 +49,13 @@ struct Call {
 }
 
 /// A random mode and one of its roles.
-fn mode_and_role(rng: &mut Rng) -> (&'static Mode, u8) {
+pub fn mode_and_role(rng: &mut Rng) -> (&'static Mode, u8) {
     let mode = &MODES[rng.below(4) as usize];
     (mode, rng.below(mode.near_taps.len() as u64) as u8)
 }
 
 /// A state that numbers 1, 2 and 4 let pass.
-fn sound_state(rng: &mut Rng, mode: &Mode, role: u8) -> Receiver {
+pub fn sound_state(rng: &mut Rng, mode: &Mode, role: u8) -> Receiver {
     let mut state = receiver::fresh(mode.number, role).expect("a mode and its role");
     if rng.below(3) > 0 {
         let held = rng.between(0, i64::from(mode.register_length)) as u32;
@@ -79,7 +80,7 @@ fn sound_event(rng: &mut Rng, mode: &Mode) -> Event {
 }
 
 /// Breaks another field of a state than mode and role.
-fn break_field(rng: &mut Rng, mode: &Mode, state: &mut [u8; STATE]) {
+pub fn break_field(rng: &mut Rng, mode: &Mode, state: &mut [u8; STATE]) {
     let length = mode.register_length;
     match rng.below(6) {
         // A reference that is no state of the mode.
@@ -251,12 +252,13 @@ fn run_short_states(tally: &mut Tally) {
 /// Compares `events` receiver events; whether there was no difference.
 pub fn compare(events: u64) -> bool {
     let mut tally = Tally::default();
-    let mut rng = Rng::new(1);
+    let mut rng = Rng::new(SEED);
     run_fresh(&mut tally);
     run_short_states(&mut tally);
     while tally.calls() < events {
         let length = rng.between(1, 60) as usize;
         run_list(&mut tally, &mut rng, length);
     }
+    println!("receiver: random lists, seed {SEED}");
     tally.report("receiver", &[0, 1, 2, 4, 7, 8, 9, 16])
 }

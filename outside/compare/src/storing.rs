@@ -1,4 +1,4 @@
-//! Making stores and appending to them, byte by byte.
+//! Making stores and appending to them, byte by byte, and reading them.
 
 use outside::mode::MODES;
 use outside::point::Point;
@@ -8,6 +8,8 @@ use outside::store;
 
 use crate::tally::{one_or_two, Tally};
 use crate::{ours, points, stores};
+
+const SEED: u64 = 3;
 
 /// A call on a store.
 enum Call {
@@ -77,12 +79,44 @@ fn run(tally: &mut Tally, before: &[u8], call: &Call) -> (u8, Vec<u8>) {
     (number, bytes)
 }
 
+/// Reads a store into lent numbers, at times too few or from an offset past
+/// their end, with or without a lent count.
+fn run_read(tally: &mut Tally, rng: &mut Rng, store: &[u8]) {
+    let events = store::read(store).map_or(0, |events| events.len());
+    let offset = rng.below(4) as usize;
+    let room = match rng.below(8) {
+        0 => rng.below(3 * events as u64 + 5) as usize,
+        _ => offset + 3 * events + rng.below(3) as usize,
+    };
+    let mut out: Vec<i64> = (0..room).map(|_| rng.next_u64() as i64).collect();
+    let mut count = vec![7; if rng.below(16) == 0 { 0 } else { 2 }];
+    let (mut right_out, mut right_count) = (out.clone(), count.clone());
+    let right = if count.is_empty() {
+        7
+    } else {
+        match store::read_into(store, &mut right_out, offset) {
+            Err(Refusal(number)) => number,
+            Ok(events) => {
+                right_count[0] = events;
+                0
+            }
+        }
+    };
+    let number = ours::read(store, &mut out, offset, &mut count);
+    tally.count(number);
+    let same = number == right && out == right_out && count == right_count;
+    tally.check(same, || {
+        format!("read {} bytes: {number}, outside {right}", store.len())
+    });
+}
+
 /// A list of calls on a sound store, each on what the one before left.
 fn run_list(tally: &mut Tally, rng: &mut Rng) {
     let mut store = stores::sound(rng);
     for _ in 0..rng.between(1, 8) {
         let call = random_call(rng);
         store = run(tally, &store, &call).1;
+        run_read(tally, rng, &store);
     }
 }
 
@@ -106,6 +140,7 @@ fn run_damaged(tally: &mut Tally, rng: &mut Rng) {
     let (number, _) = run(tally, &store, &call);
     tally.expect_lowest(&faults, number);
     run(tally, &store, &random_call(rng));
+    run_read(tally, rng, &store);
 }
 
 /// A last number without its partner: number 7, and nothing is written.
@@ -122,7 +157,7 @@ fn run_odd(tally: &mut Tally, rng: &mut Rng) {
 /// Compares `count` stores; whether there was no difference.
 pub fn compare(count: u64) -> bool {
     let mut tally = Tally::default();
-    let mut rng = Rng::new(3);
+    let mut rng = Rng::new(SEED);
     for k in 0..count {
         match k % 4 {
             0 => run_list(&mut tally, &mut rng),
@@ -132,6 +167,6 @@ pub fn compare(count: u64) -> bool {
             run_odd(&mut tally, &mut rng);
         }
     }
-    println!("store: {count} stores");
+    println!("store: {count} stores, seed {SEED}");
     tally.report("store", &[0, 1, 2, 7, 8, 9, 11, 12, 13, 14, 15, 16, 17])
 }

@@ -1,12 +1,14 @@
 //! Compares the proved library with the outside implementation: receiver,
-//! store, sender, or all of them where none is named.
+//! blocks, store, sender, listing, or all of them where none is named.
 
 use std::process::ExitCode;
 
-use compare::{receiving, sending, storing};
+use compare::{blocks, listing, receiving, sending, storing};
 
 const EVENTS: u64 = 1_200_000;
 const STORES: u64 = 120_000;
+const BLOCKS: u64 = 100_000;
+const LISTINGS: u64 = 20_000;
 const SENDING_CALLS: u64 = 200_000;
 
 fn main() -> ExitCode {
@@ -16,11 +18,17 @@ fn main() -> ExitCode {
     if asked("receiver") {
         same &= receiving::compare(EVENTS);
     }
+    if asked("blocks") {
+        same &= blocks::compare(BLOCKS);
+    }
     if asked("store") {
         same &= storing::compare(STORES);
     }
     if asked("sender") {
         same &= sending::compare(SENDING_CALLS);
+    }
+    if asked("listing") {
+        same &= listing::compare(LISTINGS);
     }
     if same {
         ExitCode::SUCCESS

@@ -1,0 +1,67 @@
+//! Listings, byte by byte: of sound stores and of damaged ones.
+
+use outside::listing;
+use outside::rng::Rng;
+
+use crate::tally::{one_or_two, Tally};
+use crate::{ours, stores};
+
+/// Bytes beyond the text, to show what a call leaves.
+const UNWRITTEN: u8 = 0xa5;
+const SEED: u64 = 5;
+
+/// Lists a store on both sides.
+fn run(tally: &mut Tally, store: &[u8], out: &mut [u8]) {
+    out.fill(UNWRITTEN);
+    let right = listing::list(store);
+    let mut count = [0];
+    let number = ours::list(store, out, &mut count);
+    tally.count(number);
+    let (text, rest) = out.split_at(count[0].min(out.len()));
+    let left = rest.iter().all(|&byte| byte == UNWRITTEN);
+    tally.check(number == 0 && text == right && left, || {
+        format!(
+            "listing of {} bytes: {number}, {} bytes of text",
+            store.len(),
+            count[0]
+        )
+    });
+}
+
+/// Too few lent bytes, or no lent count: number 7, and nothing is written.
+fn run_short(tally: &mut Tally, rng: &mut Rng, out: &mut [u8]) {
+    let store = stores::sound(rng);
+    out.fill(UNWRITTEN);
+    let mut count = [9];
+    let most = out.len() - 1;
+    let few = ours::list(&store, &mut out[..most], &mut count);
+    let uncounted = ours::list(&store, out, &mut []);
+    tally.count(few);
+    tally.count(uncounted);
+    let kept = count == [9] && out.iter().all(|&byte| byte == UNWRITTEN);
+    tally.check(few == 7 && uncounted == 7 && kept, || {
+        format!("too few lent: {few}, {uncounted}")
+    });
+}
+
+/// Compares `count` listings; whether there was no difference.
+pub fn compare(count: u64) -> bool {
+    let mut tally = Tally::default();
+    let mut rng = Rng::new(SEED);
+    let mut out = vec![0; ours::LISTING_BYTES];
+    for k in 0..count {
+        let mut store = stores::sound(&mut rng);
+        if k % 4 == 0 {
+            for &fault in &one_or_two(&mut rng, &[11, 12, 13, 14, 15]) {
+                stores::damage(&mut rng, &mut store, fault);
+            }
+        }
+        run(&mut tally, &store, &mut out);
+    }
+    for size in [0, 1, 31, 32, 33, 64, 65_536, 65_537, 70_000] {
+        run(&mut tally, &vec![0; size], &mut out);
+    }
+    run_short(&mut tally, &mut rng, &mut out);
+    println!("listing: {count} random stores, seed {SEED}");
+    tally.report("listing", &[0, 7])
+}
