@@ -1,6 +1,6 @@
 //! Receiver events, settled marks and refusals.
 
-use outside::receiver::{fresh, receive_gap, receive_point, Answer, Receiver};
+use outside::receiver::{fresh, receive_gap, receive_point, receive_points, Answer, Receiver};
 use outside::refusal::Refusal;
 use outside::units::{BitCount, UnitIntervals};
 
@@ -190,4 +190,38 @@ fn fresh_refuses_by_1_and_2() {
             assert_eq!(fresh(mode, role).err(), expected);
         }
     }
+}
+
+#[test]
+fn a_block_is_the_single_calls() {
+    let start = fresh(1, 0).unwrap();
+    let points = [4096, 0, 0, 4096, 0, 0, -4096, 0, 0, -4096];
+    let (mut line, mut plain) = ([9; 6], [9; 6]);
+    let next = receive_points(start, &points, &mut line, &mut plain).unwrap();
+    assert_eq!(line, [16, 0b01, 17, 16, 0b01, 9]);
+    assert_eq!(plain, [0, 32, 0, 0, 32, 9]);
+    let mut state = start;
+    for pair in points.chunks(2) {
+        point(&mut state, pair[0], pair[1]);
+    }
+    assert_eq!(next, state);
+}
+
+#[test]
+fn a_block_is_taken_whole_or_not_at_all() {
+    let mut start = fresh(1, 0).unwrap();
+    let (mut line, mut plain) = ([9; 2], [9; 2]);
+    let mut refused = |state, points: &[i16]| {
+        let told = receive_points(state, points, &mut line, &mut plain);
+        assert_eq!((line, plain), ([9; 2], [9; 2]));
+        told
+    };
+    assert_eq!(refused(start, &[1, 0, 0]), Err(Refusal(7)));
+    assert_eq!(refused(start, &[1, 0, 0, 1, 1, 1]), Err(Refusal(7)));
+    assert_eq!(refused(start, &[1, 0, 0, 16385]), Err(Refusal(8)));
+    start.place = UnitIntervals(u32::MAX - 1);
+    assert_eq!(refused(start, &[1, 0, 0, 1]), Err(Refusal(16)));
+    assert_eq!(refused(start, &[1, 0, -16385, 1]), Err(Refusal(8)));
+    start.mode = 5;
+    assert_eq!(refused(start, &[]), Err(Refusal(1)));
 }
