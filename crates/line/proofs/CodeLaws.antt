@@ -2,15 +2,14 @@
 use mathlib.Core.Path.{_≡_, refl, sym, ap, ap₂, _∙_}
 use Prim.Native.Nat.{ℕ, zero, suc, _+_, _*_, _-_, _/_, _%_, _<_, _≤_}
 use native.Mathlib.Omega.{arith}
-use mathlib.Core.Bool.{Bool}
-use mathlib.Core.List.{List}
-use lib.Dec.{eqb}
-use lib.ListN.{length, getD}
-use Rattle.line.specs.Table.{entry, firstRow}
+use mathlib.Core.Bool.{Bool, cond}
+use lib.Dec.{eqb, eqb→eq}
+use lib.ListN.{getD}
+use Rattle.line.specs.Table.{entry, rowFrom, firstRow, below, every}
 use Rattle.line.specs.Mode.{face, quadrant}
 use Rattle.line.specs.Code.{changes4, changes8, changes16, coded, eighths, turnRow, group}
 use Rattle.line.proofs.ByMode.{mode-1, mode-2, mode-3, mode-4}
-use Rattle.line.proofs.TableLaws.{row-same}
+use Rattle.line.proofs.TableLaws.{below-at, row-below}
 
 module _ (m x g : ℕ) where
   pub coded-1 : (c : ℕ) → m ≤ 1 → c ≡ entry changes4 g → (x % 8 + 2 * c) % 8 ≡ coded m (face m x) g
@@ -43,23 +42,42 @@ module _ (m x g : ℕ) where
       ∙ ap (λ (y : ℕ). 4 * entry changes16 (4 * (g / 4) + y % 4) + g % 4) (sym (mode-4 x x x (x / 4 % 4) m h p q))
       ∙ sym (mode-4 _ _ _ _ m h p q)
 
--- a search over a table's rows is one over its entries
-pub row-entry : (t : List ℕ) (i j : ℕ → ℕ) (n x : ℕ) → ((k : ℕ) → k < n → i k ≡ j k % length t)
-    → firstRow (λ g. eqb (getD t (i g) 0) x) n ≡ firstRow (λ g. eqb (entry t (j g)) x) n
-unfolding entry
-row-entry t i j n x h =
-    row-same (λ g. eqb (getD t (i g) 0) x) (λ g. eqb (getD t (j g % length t) 0) x) 0 n
-    (λ k p. ap (λ (y : ℕ). eqb (getD t y 0) x) (h k (omega arith)))
+-- just one row of a table holds what is looked for, so that the rows that hold it add up to the first: one computed test for each table
+abbrev if-row : ℕ → ℕ → ℕ → ℕ
+if-row held x row = cond (eqb held x) row 0
 
-pub row4-law : (r x : ℕ) → r ≡ firstRow (λ g. eqb (getD changes4 (1 * g + 0) 0) x) 3 → r ≡ firstRow (λ g. eqb (entry changes4 g) x) 3
-row4-law r x e = e ∙ row-entry changes4 (λ g. 1 * g + 0) (λ g. g) 3 x (unfold changes4 in (λ k p. omega arith))
+abbrev Found : ℕ → ℕ → (ℕ → Bool) → Type 0
+Found r n f = (r ≡ firstRow f n) × (r ≤ n)
 
-pub row8-law : (r x : ℕ) → r ≡ firstRow (λ g. eqb (getD changes8 (1 * g + 0) 0) x) 7 → r ≡ firstRow (λ g. eqb (entry changes8 g) x) 7
-row8-law r x e = e ∙ row-entry changes8 (λ g. 1 * g + 0) (λ g. g) 7 x (unfold changes8 in (λ k p. omega arith))
+found : (r n : ℕ) (f : ℕ → Bool) → r ≡ firstRow f n → Found r n f
+found r n f e = (e, let b : firstRow f n ≤ 0 + n = row-below f 0 n in omega arith)
 
-pub row16-law : (r y z : ℕ) → y < 4 → r ≡ firstRow (λ g. eqb (getD changes16 (4 * g + y) 0) z) 3 → r ≡ turnRow y z
-unfolding turnRow
-row16-law r y z h e = e ∙ row-entry changes16 (λ g. 4 * g + y) (λ g. 4 * g + y) 3 z (unfold changes16 in (λ k p. omega arith))
+pub row4-law : (x a b c : ℕ) → x < 4 → a ≡ if-row 1 x 1 → b ≡ if-row 3 x 2 → c ≡ if-row 2 x 3 → Found (a + b + c) 3 (λ g. eqb (entry changes4 g) x)
+unfolding entry rowFrom changes4
+row4-law x a b c h p q r =
+    found _ 3 (λ g. eqb (entry changes4 g) x)
+    (ap₂ (λ (i j : ℕ). i + j) (ap₂ (λ (i j : ℕ). i + j) p q) r
+    ∙ eqb→eq _ _ (below-at (λ y. eqb (if-row 1 y 1 + if-row 3 y 2 + if-row 2 y 3) (firstRow (λ g. eqb (entry changes4 g) y) 3)) 4 tt x h))
+
+pub row8-law : (x a b c d e f g : ℕ) → x < 8 → a ≡ if-row 0 x 1 → b ≡ if-row 2 x 2 → c ≡ if-row 3 x 3 → d ≡ if-row 6 x 4 → e ≡ if-row 7 x 5 → f ≡ if-row 5 x 6
+    → g ≡ if-row 4 x 7 → Found (a + b + c + (d + e) + f + g) 7 (λ i. eqb (entry changes8 i) x)
+unfolding entry rowFrom changes8
+row8-law x a b c d e f g h pa pb pc pd pe pf pg =
+    found _ 7 (λ i. eqb (entry changes8 i) x)
+    (ap₂ (λ (i j : ℕ). i + j) (ap₂ (λ (i j : ℕ). i + j) (ap₂ (λ (i j : ℕ). i + j) (ap₂ (λ (i j : ℕ). i + j) (ap₂ (λ (i j : ℕ). i + j) pa pb) pc) (ap₂ (λ (i j : ℕ). i + j) pd pe)) pf) pg
+    ∙ eqb→eq _ _ (below-at (λ y. eqb (if-row 0 y 1 + if-row 2 y 2 + if-row 3 y 3 + (if-row 6 y 4 + if-row 7 y 5) + if-row 5 y 6 + if-row 4 y 7)
+    (firstRow (λ i. eqb (entry changes8 i) y) 7)) 8 tt x h))
+
+pub row16-law : (y z a b c : ℕ) → y < 4 → z < 4 → a ≡ if-row (getD changes16 (4 + y) 0) z 1 → b ≡ if-row (getD changes16 (8 + y) 0) z 2
+    → c ≡ if-row (getD changes16 (12 + y) 0) z 3 → (a + b + c ≡ turnRow y z) × (a + b + c ≤ 3)
+unfolding entry rowFrom changes16 turnRow
+row16-law y z a b c h k p q r =
+    found _ 3 (λ g. eqb (entry changes16 (4 * g + y)) z)
+    (ap₂ (λ (i j : ℕ). i + j) (ap₂ (λ (i j : ℕ). i + j) p q) r
+    ∙ eqb→eq _ _ (below-at (λ v. sum y v) 4 (below-at (λ u. every (λ v. sum u v) (below 4)) 4 tt y h) z k))
+  where
+    sum : ℕ → ℕ → Bool
+    sum u v = eqb (if-row (getD changes16 (4 + u) 0) v 1 + if-row (getD changes16 (8 + u) 0) v 2 + if-row (getD changes16 (12 + u) 0) v 3) (turnRow u v)
 
 module _ (m x s : ℕ) where
   abbrev turn8 : ℕ

@@ -90,29 +90,3 @@ pub row-below : (f : ℕ → Bool) (k n : ℕ) → rowFrom f k n ≤ k + n
 unfolding rowFrom
 row-below f k zero = omega arith
 row-below f k (suc n) = row-step (f k) k n (rowFrom f (suc k) n) (row-below f (suc k) n)
-
--- tests that agree find the same row
-pub row-same : (f g : ℕ → Bool) (k n : ℕ) → ((i : ℕ) → i < k + n → f i ≡ g i) → rowFrom f k n ≡ rowFrom g k n
-unfolding rowFrom
-row-same f g k zero h = refl
-row-same f g k (suc n) h =
-    rw (h k (omega arith), row-same f g (suc k) n (λ i p. h i (omega arith)))
-
--- a search for a row, one row further: what is left of it gives the row
-module _ (f : ℕ → Bool) (k n r : ℕ) (h : rowFrom f k (n - k) ≡ r) where
-  left-one : k < n → rowFrom f k (suc (n - suc k)) ≡ r
-  left-one p = subst (λ (i : ℕ). rowFrom f k i ≡ r) (let e : n - k ≡ suc (n - suc k) = omega arith in e) h
-
-  pub row-hit : k < n → f k ≡ true → k ≡ r
-  unfolding rowFrom
-  row-hit p e = ap (λ (b : Bool). cond b k (rowFrom f (suc k) (n - suc k))) (sym e) ∙ left-one p
-
-  pub row-miss : k < n → f k ≡ false → rowFrom f (k + 1) (n - (k + 1)) ≡ r
-  unfolding rowFrom
-  row-miss p e =
-      ap (λ (i : ℕ). rowFrom f i (n - i)) (let q : k + 1 ≡ suc k = omega arith in q)
-      ∙ ap (λ (b : Bool). cond b k (rowFrom f (suc k) (n - suc k))) (sym e) ∙ left-one p
-
-  pub row-end : n ≤ k → k ≡ r
-  unfolding rowFrom
-  row-end p = subst (λ (i : ℕ). rowFrom f k i ≡ r) (let e : n - k ≡ 0 = omega arith in e) h

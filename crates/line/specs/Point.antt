@@ -12,6 +12,12 @@ use Rattle.line.specs.Mode.{byMode}
 abbrev pub at : ℤ → ℤ → Point
 at x y = record { re = x; im = y }
 
+-- a list of numbers is points, re and im in turn; a last number without its partner is no point
+abbrev pub pairs : List ℤ → List Point
+pairs [] = []
+pairs (x ∷ []) = []
+pairs (x ∷ y ∷ zs) = at x y ∷ pairs zs
+
 -- each coordinate lies from -16384 to 16384
 unfoldable pub inRange : Point → Bool
 inRange p = leb (natAbs (p .re)) 16384 && leb (natAbs (p .im)) 16384

@@ -1,8 +1,8 @@
 // Modes, states, points, deciding a point and the differential code: document 01.
 ghost use mathlib.Core.Path.{_≡_};
-ghost use mathlib.Core.Bool.{Bool, true, false};
+ghost use mathlib.Core.Bool.{Bool, true, false, cond};
 ghost use Prim.Native.Nat.{ℕ, _+_, _*_, _≤_, _<_};
-ghost use lib.Dec.{eqb};
+ghost use lib.Dec.{eqb, leb, ltb};
 ghost use lib.IntN.{ℤ, natAbs};
 ghost use lib.ListN.{length, getD};
 ghost use lib.Signed.{nonNeg};
@@ -195,17 +195,29 @@ pub fn in_range(re: i16, im: i16) -> bool
     (size(re) <= 16384) & (size(im) <= 16384)
 }
 
+// Neither a coordinate's sign nor a decision takes the code another way: it would be guessed wrong half of the time. Both
+// values are made, and one is picked.
+fn quarter_right(up: bool, x: u32) -> u8
+    ensures { λ r. ⌜ r ≡ cond up (cond (eqb x 0) 1 0) 3 ⌝ }
+    ensures { λ r. ⌜ r < 4 ⌝ }
+{
+    if up { if x == 0 { 1 } else { 0 } } else { 3 }
+}
+
+fn quarter_left(up: bool, y: u32) -> u8
+    ensures { λ r. ⌜ r ≡ cond up (cond (eqb y 0) 2 1) 2 ⌝ }
+    ensures { λ r. ⌜ r < 4 ⌝ }
+{
+    if up { if y == 0 { 2 } else { 1 } } else { 2 }
+}
+
 fn quarter(right: bool, up: bool, x: u32, y: u32) -> u8
     ensures { λ r. ⌜ r ≡ quarterOf right up x y ⌝ }
     ensures { λ r. ⌜ r < 4 ⌝ }
 {
-    if right {
-        if up { if x == 0 { 1 } else { 0 } } else { 3 }
-    } else if up {
-        if y == 0 { 2 } else { 1 }
-    } else {
-        2
-    }
+    let a = quarter_right(up, x);
+    let b = quarter_left(up, y);
+    if right { a } else { b }
 }
 
 fn arc_from(k: u8, x: u32, y: u32) -> Arc
@@ -228,15 +240,19 @@ fn arc_from(k: u8, x: u32, y: u32) -> Arc
     }
 }
 
+// 1 past the edge, at which `across` is `most`.
+fn past(across: u32, most: u32) -> u8
+    ensures { λ r. ⌜ r ≡ cond (leb across most) 0 1 ⌝ }
+    ensures { λ r. ⌜ r ≤ 1 ⌝ }
+{
+    if across <= most { 0 } else { 1 }
+}
+
 fn decide1(t: Arc) -> u8
     requires { ⌜ Bounded t ⌝ }
     ensures { λ r. ⌜ r ≡ state1 t ⌝ }
 {
-    if t.across <= t.along {
-        (t.quarters + 0) % 4 * 2
-    } else {
-        (t.quarters + 1) % 4 * 2
-    }
+    (t.quarters + past(t.across, t.along)) % 4 * 2
 }
 
 const RING3: [u8; 4] = [13, 9, 1, 5];
@@ -246,10 +262,20 @@ fn decide3(t: Arc) -> u8
     ensures { λ r. ⌜ r ≡ state3 t ⌝ }
 {
     let k = t.quarters as usize;
-    if t.across <= 2 * t.along {
-        RING3[(k + 0) % 4]
+    RING3[(k + past(t.across, 2 * t.along) as usize) % 4]
+}
+
+// The turns of 45°, from s = (a + b)², x = 2·a² and y = 2·b².
+fn eighth(s: u64, x: u64, y: u64) -> u8
+    ensures { λ r. ⌜ r ≡ cond (ltb s x) 0 (cond (ltb s y) 2 1) ⌝ }
+    ensures { λ r. ⌜ r ≤ 2 ⌝ }
+{
+    if s < x {
+        0
+    } else if s < y {
+        2
     } else {
-        RING3[(k + 1) % 4]
+        1
     }
 }
 
@@ -263,19 +289,11 @@ fn decide2(t: Arc) -> Decision
     let s = sum * sum;
     let x = 2 * (a * a);
     let y = 2 * (b * b);
-    let k = t.quarters * 2;
-    if s < x {
-        return Decision::State(k);
+    let step = eighth(s, x, y);
+    if ((s == x) | (s == y)) & (step == 1) {
+        return Decision::NoSector;
     }
-    if s < y {
-        return Decision::State((k + 2) % 8);
-    }
-    if x < s {
-        if y < s {
-            return Decision::State(k + 1);
-        }
-    }
-    Decision::NoSector
+    Decision::State((t.quarters * 2 + step) % 8)
 }
 
 const RING4: [u8; 16] = [12, 13, 14, 15, 8, 9, 10, 11, 0, 1, 2, 3, 4, 5, 6, 7];
@@ -374,46 +392,43 @@ pub fn next_state(mode: u8, reference: u8, g: u8) -> u8
     4 * change16(4 * (bits / 4) + y) + g % 4
 }
 
-// The first row that holds x, of the rows at first, first + stride and so on; the row `last` where none before it does.
-fn row_of(table: &[u8], first: usize, stride: usize, last: usize, x: u8) -> usize
-    requires { ⌜ (stride * last + first < length (now table)) × (last < 8) × (stride ≤ 4) × (first < 4) ⌝ }
-    ensures { λ r. ⌜ r ≡ firstRow (λ g. eqb (getD (now (table .entry)) (stride * g + first) 0) x) last ⌝ }
-    ensures { λ r. ⌜ r ≤ last ⌝ }
+// The row, if it is the one; else 0.
+fn row_if(hit: bool, row: usize) -> usize
+    ensures { λ r. ⌜ r ≡ cond hit row 0 ⌝ }
+    ensures { λ r. ⌜ r ≤ row ⌝ }
 {
-    let mut row = 0;
-    while row < last {
-        if table[stride * row + first] == x {
-            return row;
-        }
-        row += 1;
-    }
-    row
+    if hit { row } else { 0 }
 }
 
-// The rows of the three tables, by what they hold: of the first two the change, of the third the new Y1 Y2 after y.
+// The rows of the three tables, by what they hold: of the first two the change, of the third the new Y1 Y2 after y. Just one
+// row holds it, and all are looked at.
 fn row4(change: u8) -> usize
+    requires { ⌜ change < 4 ⌝ }
     ensures { λ r. ⌜ r ≡ firstRow (λ g. eqb (entry changes4 g) change) 3 ⌝ }
     ensures { λ r. ⌜ r ≤ 3 ⌝ }
 {
     let t = CHANGES4;
-    row_of(&t, 0, 1, 3, change)
+    row_if(t[1] == change, 1) + row_if(t[2] == change, 2) + row_if(t[3] == change, 3)
 }
 
 fn row8(change: u8) -> usize
+    requires { ⌜ change < 8 ⌝ }
     ensures { λ r. ⌜ r ≡ firstRow (λ g. eqb (entry changes8 g) change) 7 ⌝ }
     ensures { λ r. ⌜ r ≤ 7 ⌝ }
 {
     let t = CHANGES8;
-    row_of(&t, 0, 1, 7, change)
+    let low = row_if(t[1] == change, 1) + row_if(t[2] == change, 2) + row_if(t[3] == change, 3);
+    let high = row_if(t[4] == change, 4) + row_if(t[5] == change, 5);
+    low + high + row_if(t[6] == change, 6) + row_if(t[7] == change, 7)
 }
 
 fn row16(y: usize, z: u8) -> usize
-    requires { ⌜ y < 4 ⌝ }
+    requires { ⌜ (y < 4) × (z < 4) ⌝ }
     ensures { λ r. ⌜ r ≡ turnRow y z ⌝ }
     ensures { λ r. ⌜ r ≤ 3 ⌝ }
 {
     let t = CHANGES16;
-    row_of(&t, y, 4, 3, z)
+    row_if(t[4 + y] == z, 1) + row_if(t[8 + y] == z, 2) + row_if(t[12 + y] == z, 3)
 }
 
 // The group of line bits that leads from a reference to a state.

@@ -137,7 +137,7 @@ module _ (m : ℕ) (h : Register) (o : Reference) where
   fields-some x a b is p q = rw (is, p, q)
 
 -- a first refusal that is one, and one that is none
-or-some : (f n k : ℕ) → f ≡ n → (f ≡ 0 → ⊥) → f ≡ orNext n k
+pub or-some : (f n k : ℕ) → f ≡ n → (f ≡ 0 → ⊥) → f ≡ orNext n k
 or-some f zero k e h = absurd (h e)
 or-some f (suc n) k e h = e
 

@@ -88,7 +88,7 @@ fn fields_ok(mode: u8, reference: Reference, h: Register) -> bool
 }
 
 // The number of what is wrong with a handed-in state, 0 for nothing.
-fn state_fault(s: Receiver) -> u8
+pub fn state_fault(s: Receiver) -> u8
     ensures { λ r. ⌜ r ≡ stateRefusal s ⌝ }
 {
     let fault = fresh_fault(s.mode, s.role);

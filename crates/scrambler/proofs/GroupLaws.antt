@@ -3,7 +3,7 @@ use Prim.Native.Nat.{ℕ, zero, suc, _+_, _*_, _-_, _^_, _/_, _%_, _<_, _≤_, m
 use mathlib.Core.Path.{_≡_, refl, sym, _∙_, ap, ap₂, subst}
 use mathlib.Core.Bool.{Bool, true, false, _&&_}
 use mathlib.Core.List.{List, [], _∷_, _++_, map}
-use native.Mathlib.Nat.{mod-lt, mod-eq-of-lt, mul-assoc, mul-add-mod-self-right}
+use native.Mathlib.Nat.{mod-le, mod-lt, mod-eq-of-lt, mul-assoc, mul-add-mod-self-right}
 use native.Mathlib.Omega.{arith}
 use borrow.Author.Tests.{le-leb, lt-leb}
 use lib.Dec.{T, leb, ltb, ltb→lt, lt→ltb}
@@ -13,7 +13,7 @@ use lib.Pow.{pow-pos, pow-add}
 use Rattle.line.specs.Table.{every}
 use Rattle.line.specs.Mode.{width, regLen}
 use Rattle.line.proofs.TableLaws.{and-left, and-right, and-intro}
-use Rattle.line.proofs.ByMode.{width-range, length-range}
+use Rattle.line.proofs.ByMode.{by-all, width-range, length-range}
 use Rattle.scrambler.specs.declared.Register.{Register}
 use Rattle.scrambler.specs.declared.Scrambled.{Scrambled}
 use Rattle.scrambler.specs.declared.Descrambled.{Descrambled}
@@ -212,3 +212,15 @@ module _ (m role : ℕ) (h : Register) (g : ℕ) where
 pub mixed-small : (m role n x : ℕ) → mixedAtOnce m role n x < 2 ^ width m
 unfolding mixedAtOnce
 mixed-small m role n x = mod-lt (bitXor (bitXor x (n / 2 ^ (nearTap m role - width m))) (n / 2 ^ (regLen m - width m))) (pow-pos (width m))
+
+-- a group's numbers are small, so that one byte holds both
+pub descrambled-small : (m role : ℕ) (h : Register) (g : ℕ) → (descrambled m role h g .plain < 16) × (descrambled m role h g .unsettled .0 ≤ 4)
+unfolding descrambled width
+descrambled-small m role h g =
+    let p = group-plain m role h g in
+    let u = group-unsettled m role h g in
+    let w : 2 ^ width m ≤ 16 = by-all (λ (k : ℕ). 2 ^ k ≤ 16) 2 3 2 4 (omega arith) (omega arith) (omega arith) (omega arith) m in
+    let a = mixed-small m role (h .bits) g in
+    let b = mod-le (mixedAtOnce m role (h .bits) g) (2 ^ (width m - (regLen m - h .held .0))) in
+    let r = width-range m .1 in
+    (omega arith, omega arith)

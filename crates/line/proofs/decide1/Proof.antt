@@ -1,10 +1,15 @@
+use Prim.Native.Nat.{ℕ, _+_, _*_, _%_}
+use mathlib.Core.Path.{ap}
 use Rattle.line.specs.Sizes.{state1}
-use Rattle.line.proofs.Tests.{tests}
 use borrow.Author.Needs.{needs}
 use Rattle.line.proofs.decide1.Statement.{statement}
 use Rattle.line.proofs.decide1.Tie as tie
 use Rattle.line.proofs.decide1.Reads as reads
 use Rattle.line.proofs.decide1.Lts as lts
+use Rattle.line.proofs.past.Reads as past-reads
+
+past-requires : tie.Need-past-requires
+past-requires c κs = search needs
 
 add-result : tie.Need-add-result
 add-result c = search needs
@@ -12,20 +17,9 @@ add-result c = search needs
 mul-result : tie.Need-mul-result
 mul-result c = search needs
 
-add-result-2 : tie.Need-add-result-2
-add-result-2 c = search needs
-
-mul-result-2 : tie.Need-mul-result-2
-mul-result-2 c = search needs
-
 returns : tie.Need-returns
 unfolding state1
-returns c = search tests
-
-returns-2 : tie.Need-returns-2
-unfolding state1
-returns-2 c = search tests
+returns c = ap (λ (n : ℕ). (c .before .before .args .t .quarters + n) % 4 * 2) (c .before .past .ensures .0)
 
 pub decide1-spec : {M : Type 1} → statement M
-decide1-spec =
-    tie.close (tie.spec add-result mul-result add-result-2 mul-result-2 returns returns-2)
+decide1-spec = tie.close (tie.spec past-requires add-result mul-result returns)

@@ -1,11 +1,12 @@
+use mathlib.Core.Path.{refl}
+use Rattle.line.proofs.SectorLaws.{edge-law, inside-law}
 use Rattle.line.proofs.Bound.{square, double-square}
-use Rattle.line.specs.Sizes.{decided2}
-use Rattle.line.proofs.Tests.{tests}
 use borrow.Author.Needs.{needs}
 use Rattle.line.proofs.decide2.Statement.{statement}
 use Rattle.line.proofs.decide2.Tie as tie
 use Rattle.line.proofs.decide2.Reads as reads
 use Rattle.line.proofs.decide2.Lts as lts
+use Rattle.line.proofs.eighth.Reads as eighth-reads
 
 cast-a : tie.Need-cast-a
 cast-a c = search needs
@@ -31,34 +32,20 @@ mul-y c = square 32768 tt (search needs)
 mul-y-2 : tie.Need-mul-y-2
 mul-y-2 c = double-square 32768 tt (search needs)
 
-mul-k : tie.Need-mul-k
-mul-k c = search needs
+eighth-requires : tie.Need-eighth-requires
+eighth-requires c κs = search needs
 
 returns : tie.Need-returns
-unfolding decided2
-returns c = search tests
+returns c = edge-law _ _ _ _ _ refl refl refl (c .before .eighth .ensures .0) (c .if1 .taken)
 
-add-t11 : tie.Need-add-t11
-add-t11 c = search needs
+mul-t15 : tie.Need-mul-t15
+mul-t15 c = search needs
+
+add-t16 : tie.Need-add-t16
+add-t16 c = search needs
 
 returns-2 : tie.Need-returns-2
-unfolding decided2
-returns-2 c = search tests
-
-add-t14 : tie.Need-add-t14
-add-t14 c = search needs
-
-returns-3 : tie.Need-returns-3
-unfolding decided2
-returns-3 c = search tests
-
-returns-4 : tie.Need-returns-4
-unfolding decided2
-returns-4 c = search tests
-
-returns-5 : tie.Need-returns-5
-unfolding decided2
-returns-5 c = search tests
+returns-2 c = inside-law _ _ _ _ _ refl refl refl (c .before .before .eighth .ensures .0) (search needs) (c .before .if1 .left)
 
 pub decide2-spec : {M : Type 1} → statement M
 decide2-spec =
@@ -72,11 +59,8 @@ decide2-spec =
     mul-x-2
     mul-y
     mul-y-2
-    mul-k
+    eighth-requires
     returns
-    add-t11
-    returns-2
-    add-t14
-    returns-3
-    returns-4
-    returns-5)
+    mul-t15
+    add-t16
+    returns-2)

@@ -1,0 +1,344 @@
+-- A block is the single calls one after the other, and the ways of its code lead to that. Assumes nothing.
+use Prim.Native.Nat.{ℕ, zero, suc, _+_, _*_, _-_, _/_, _%_, _<_, _≤_}
+use mathlib.Core.Path.{_≡_, refl, sym, ap, ap₂, _∙_, subst}
+use mathlib.Core.Bool.{Bool, true, false, _&&_}
+use mathlib.Core.List.{List, [], _∷_, map}
+use native.Mathlib.Omega.{arith}
+use borrow.Author.Tests.{le-leb, lt-leb, leb-true}
+use lib.Dec.{T, eqb, leb}
+use lib.IntN.{ℤ, pos}
+use lib.ListN.{length, getD, set, drop}
+use lib.Seq.{sets}
+use Rattle.line.specs.declared.Point.{Point}
+use Rattle.line.specs.declared.Decision.{Decision}
+use Rattle.line.specs.declared.Decision.the-variants.{State, Origin, NoSector}
+use Rattle.line.specs.Mode.{face}
+use Rattle.line.specs.Point.{at, pairs, inRange}
+use Rattle.line.specs.Decide.{decide}
+use Rattle.line.specs.Code.{group}
+use Rattle.line.specs.Refusal.{need, orNext, accepted}
+use Rattle.line.proofs.RefusalLaws.{need-met, need-rest, need-intro, next-first, next-rest}
+use Rattle.line.proofs.TableLaws.{and-left, and-right, and-intro, is-true}
+use Rattle.line.proofs.PointLaws.{pairs-step, pairs-end, pairs-length}
+use Rattle.line.proofs.SectorLaws.{never-no-sector}
+use Rattle.scrambler.specs.declared.Register.{Register}
+use Rattle.scrambler.specs.declared.Descrambled.{Descrambled}
+use Rattle.scrambler.specs.Register.{fresh}
+use Rattle.scrambler.specs.Group.{descrambled}
+use Rattle.scrambler.proofs.GroupLaws.{descrambled-small}
+use Rattle.receiver.specs.declared.Reference.{Reference}
+use Rattle.receiver.specs.declared.Reference.the-variants.{Nothing as none, State as some}
+use Rattle.receiver.specs.declared.Receiver.{Receiver}
+use Rattle.receiver.specs.declared.Outcome.{Outcome}
+use Rattle.receiver.specs.declared.Outcome.the-variants.{Refused, Referenced, Bits, Gap}
+use Rattle.receiver.specs.Receiver.{receiver, Event, point, stateRefusal, inSector, hasRoom, eventRefusal, refusal, placeAfter, forgotten, stateLine, stateNext, pointNext, eventNext, next, answer}
+use Rattle.receiver.specs.Outcome.{groupOf, stateOutcome, gapOutcome, pointOutcome, eventOutcome, outcome}
+use Rattle.receiver.specs.Calls.{after, Heard, heard}
+use Rattle.receiver.proofs.OutcomeLaws.{next-placed, or-some}
+use Rattle.receiver.proofs.CallLaws.{handed-back-passes, same-next}
+use Rattle.blocks.specs.declared.Block.{Block}
+use Rattle.blocks.specs.declared.Block.the-variants.{Refused as NotTaken, Taken}
+use Rattle.blocks.specs.declared.Step.{Step}
+use Rattle.blocks.specs.Block.{lineByte, plainByte, outcomes, EachAccepted, each, lentOk, blockRefusal, block, lineBytes, plainBytes, step}
+
+-- ONE POINT
+
+-- what a point gives that nothing refuses
+module _ (s : Receiver) (p : Point) (z : refusal s (point p) ≡ 0) where
+  own-refusal : eventRefusal s (point p) ≡ 0
+  unfolding refusal
+  own-refusal = next-rest (stateRefusal s) _ z
+
+  pub has-place : s .place .0 < 4294967295
+  unfolding eventRefusal hasRoom
+  has-place =
+      let r : T (leb (s .place .0 + 1) 4294967295) = need-met (hasRoom s 1) 15 0 (need-rest (inSector (decide (s .mode) p)) 9 _ (need-rest (inRange p) 7 _ own-refusal)) in
+      let l : s .place .0 + 1 ≤ 4294967295 = leb-true _ _ (is-true _ r) in
+      omega arith
+
+  place-next : next s (point p) .place .0 ≡ s .place .0 + 1
+  unfolding placeAfter
+  place-next = next-placed s (point p) ∙ ap (λ (n : ℕ). accepted n (s .place .0 + 1) (s .place .0)) z
+
+  step-is : step (pointOutcome s (decide (s .mode) p)) (pointNext s (decide (s .mode) p)) ≡ step (outcome s (point p)) (next s (point p))
+  unfolding outcome eventOutcome next eventNext
+  step-is = ap (λ (n : ℕ). step (accepted n (pointOutcome s (decide (s .mode) p)) (Refused n)) (accepted n (pointNext s (decide (s .mode) p)) s)) (sym z)
+
+-- its step, by what it is decided as; the coordinates as they were passed on
+module _ (s : Receiver) (re im : ℤ) (z : refusal s (point (at re im)) ≡ 0) (d : Decision) (re′ im′ : ℤ) (q : d ≡ decide (s .mode) (at re′ im′)) (x : re′ ≡ re) (y : im′ ≡ im) where
+  abbrev told : Step
+  told = step (outcome s (point (at re im))) (next s (point (at re im)))
+
+  decided : d ≡ decide (s .mode) (at re im)
+  decided = q ∙ ap₂ (λ (a b : ℤ). decide (s .mode) (at a b)) x y
+
+  step-as : (c : Decision) (r : Step) → d ≡ c → r ≡ step (pointOutcome s c) (pointNext s c) → r ≡ told
+  step-as c r e t = t ∙ ap (λ (u : Decision). step (pointOutcome s u) (pointNext s u)) (sym e ∙ decided) ∙ step-is s (at re im) z
+
+  pub hear-state : (n : ℕ) (r : Step) → d ≡ State n → r ≡ step (stateOutcome s (s .reference) n) (stateNext s (s .reference) n) → r ≡ told
+  unfolding pointOutcome pointNext
+  hear-state n r e t = step-as (State n) r e t
+
+  pub hear-origin : (r : Step) → d ≡ Origin → r ≡ step (gapOutcome s 1) (forgotten s 1) → r ≡ told
+  unfolding pointOutcome pointNext
+  hear-origin r e t = step-as Origin r e t
+
+  pub hear-nowhere : (r : Step) → d ≡ NoSector → r ≡ told
+  hear-nowhere r e = absurd (never-no-sector (s .mode) (at re im) (sym decided ∙ e))
+
+-- a decided point and the origin from their parts
+module _ (s t : Receiver) (y : ℕ) (o : Reference) where
+  pub take-reference : o ≡ none → t ≡ receiver (s .mode) (s .role) (some y) (s .line) (s .place .0 + 1)
+      → _≡_ {A = Step} (record { line = 16; plain = 0; next = t }) (step (stateOutcome s o y) (stateNext s o y))
+  unfolding stateOutcome stateNext stateLine
+  take-reference is q = rw (q, is)
+
+  pub take-bits : (x g : ℕ) (d : Descrambled) → o ≡ some x → g ≡ group (s .mode) (face (s .mode) x) y → d ≡ descrambled (s .mode) (s .role) (s .line) g
+      → t ≡ receiver (s .mode) (s .role) (some y) (d .next) (s .place .0 + 1)
+      → _≡_ {A = Step} (record { line = g; plain = 16 * d .unsettled .0 + d .plain; next = t }) (step (stateOutcome s o y) (stateNext s o y))
+  unfolding stateOutcome stateNext stateLine groupOf descrambled
+  take-bits x g d is e q r = rw (r, q, e, is)
+
+pub lose-law : (s t : Receiver) (h : Register) → h ≡ fresh → t ≡ receiver (s .mode) (s .role) none h (s .place .0 + 1)
+    → _≡_ {A = Step} (record { line = 17; plain = 0; next = t }) (step (gapOutcome s 1) (forgotten s 1))
+unfolding forgotten
+lose-law s t h e q = rw (q, e)
+
+pub plain-fits : (m role g : ℕ) (h : Register) (d : Descrambled) → d ≡ descrambled m role h g → (d .plain < 16) × (d .unsettled .0 ≤ 4)
+plain-fits m role g h d e = subst (λ (c : Descrambled). (c .plain < 16) × (c .unsettled .0 ≤ 4)) (sym e) (descrambled-small m role h g)
+
+-- ALL POINTS
+
+in-a-sector : (m : ℕ) (p : Point) → T (inSector (decide m p))
+in-a-sector m p = go (decide m p) refl
+  where
+    go : (d : Decision) → decide m p ≡ d → T (inSector d)
+    go (State y) e = tt
+    go Origin e = tt
+    go NoSector e = absurd (never-no-sector m p e)
+
+pub each-in-a-sector : (m : ℕ) (ps : List Point) → T (each (λ p. inSector (decide m p)) ps)
+each-in-a-sector m [] = tt
+each-in-a-sector m (p ∷ ps) = and-intro (inSector (decide m p)) _ (in-a-sector m p) (each-in-a-sector m ps)
+
+accepts : (s : Receiver) (p : Point) → stateRefusal s ≡ 0 → T (inRange p) → s .place .0 < 4294967295 → refusal s (point p) ≡ 0
+unfolding refusal eventRefusal hasRoom
+accepts s p z i l =
+    rw z (need-intro (inRange p) 8 _ i (need-intro (inSector (decide (s .mode) p)) 10 _ (in-a-sector (s .mode) p) (rw (le-leb (s .place .0 + 1) 4294967295 (omega arith)))))
+
+-- none of the single calls is refused
+pub accepted-one-by-one : (s : Receiver) (ps : List Point) → stateRefusal s ≡ 0 → T (each inRange ps) → s .place .0 + length ps ≤ 4294967295 → EachAccepted s ps
+accepted-one-by-one s [] z i l = tt
+accepted-one-by-one s (p ∷ ps) z i l =
+    let a : refusal s (point p) ≡ 0 = accepts s p z (and-left (inRange p) _ i) (omega arith) in
+    let q = place-next s p a in
+    (a, accepted-one-by-one (next s (point p)) ps (handed-back-passes s (point p) a) (and-right (inRange p) _ i) (omega arith))
+
+-- ONE BY ONE
+
+-- the numbers from 7 on, in their order
+module _ (s : Receiver) (zs : List ℤ) (a b : ℕ) where
+  abbrev room-number : ℕ
+  room-number = need (hasRoom s (length (pairs zs))) 16 0
+
+  abbrev sector-number : ℕ
+  sector-number = need (each (λ p. inSector (decide (s .mode) p)) (pairs zs)) 10 room-number
+
+  abbrev range-number : ℕ
+  range-number = need (each inRange (pairs zs)) 8 sector-number
+
+  lent-is : (eqb (length zs % 2) 0 && leb (length zs / 2) a) && leb (length zs / 2) b ≡ lentOk zs a b
+  unfolding lentOk
+  lent-is = rw (pairs-length zs)
+
+  module _ (z : blockRefusal s zs a b ≡ 0) where
+    passes : stateRefusal s ≡ 0
+    unfolding blockRefusal
+    passes = next-first (stateRefusal s) _ z
+
+    lent : need (lentOk zs a b) 7 range-number ≡ 0
+    unfolding blockRefusal
+    lent = next-rest (stateRefusal s) _ z
+
+    in-range : range-number ≡ 0
+    in-range = need-rest (lentOk zs a b) 6 _ lent
+
+    pub has-bytes : (length zs / 2 ≤ a) × (length zs / 2 ≤ b)
+    unfolding lentOk
+    has-bytes =
+        let n = pairs-length zs in
+        let t = need-met (lentOk zs a b) 6 _ lent in
+        let u = and-left (eqb (length zs % 2) 0 && leb (length (pairs zs)) a) (leb (length (pairs zs)) b) t in
+        let x : length (pairs zs) ≤ a = leb-true _ _ (is-true _ (and-right (eqb (length zs % 2) 0) (leb (length (pairs zs)) a) u)) in
+        let y : length (pairs zs) ≤ b = leb-true _ _ (is-true _ (and-right (eqb (length zs % 2) 0 && leb (length (pairs zs)) a) (leb (length (pairs zs)) b) t)) in
+        (omega arith, omega arith)
+
+    -- no single call of an accepted block is refused
+    pub one-by-one : EachAccepted s (pairs zs)
+    unfolding hasRoom
+    one-by-one =
+        accepted-one-by-one s (pairs zs) passes (need-met (each inRange (pairs zs)) 7 _ in-range)
+        (leb-true _ _ (is-true _ (need-met (hasRoom s (length (pairs zs))) 15 0 (need-rest (each (λ p. inSector (decide (s .mode) p)) (pairs zs)) 9 _ (need-rest (each inRange (pairs zs)) 7 _ in-range)))))
+
+each-in-range : (s : Receiver) (ps : List Point) → EachAccepted s ps → T (each inRange ps)
+unfolding eventRefusal
+each-in-range s [] f = tt
+each-in-range s (p ∷ ps) f = and-intro (inRange p) _ (need-met (inRange p) 7 _ (own-refusal s p (f .0))) (each-in-range (next s (point p)) ps (f .1))
+
+each-has-place : (s : Receiver) (ps : List Point) → s .place .0 ≤ 4294967295 → EachAccepted s ps → s .place .0 + length ps ≤ 4294967295
+each-has-place s [] l f = omega arith
+each-has-place s (p ∷ ps) l f =
+    let q = place-next s p (f .0) in
+    let h = has-place s p (f .0) in
+    let i = each-has-place (next s (point p)) ps (omega arith) (f .1) in
+    omega arith
+
+-- and where none is, the state passes and the bytes suffice, the block is accepted. The place is a u32.
+pub at-once : (s : Receiver) (zs : List ℤ) (a b : ℕ) → stateRefusal s ≡ 0 → s .place .0 ≤ 4294967295 → T (lentOk zs a b) → EachAccepted s (pairs zs) → blockRefusal s zs a b ≡ 0
+unfolding blockRefusal hasRoom
+at-once s zs a b z l t f =
+    rw z (need-intro (lentOk zs a b) 7 _ t (need-intro (each inRange (pairs zs)) 8 _ (each-in-range s (pairs zs) f)
+    (need-intro (each (λ p. inSector (decide (s .mode) p)) (pairs zs)) 10 _ (each-in-a-sector (s .mode) (pairs zs))
+    (rw (le-leb (s .place .0 + length (pairs zs)) 4294967295 (each-has-place s (pairs zs) l f))))))
+
+-- all of them are heard, in order
+pub heard-all : (s : Receiver) (ps : List Point) → EachAccepted s ps → map (λ (x : Heard). x .event) (heard s (map point ps)) ≡ map point ps
+heard-all s [] f = refl
+heard-all s (p ∷ ps) f =
+    ap (λ (n : ℕ). map (λ (x : Heard). x .event) (accepted n (record { event = point p; answered = answer s (point p) } ∷ heard (next s (point p)) (map point ps)) (heard (next s (point p)) (map point ps)))) (f .0)
+    ∙ ap (λ (es : List Event). point p ∷ es) (heard-all (next s (point p)) ps (f .1))
+
+-- THE WAYS OF THE CODE
+
+module _ (s : Receiver) (zs : List ℤ) (a b f : ℕ) (e : f ≡ stateRefusal s) where
+  pub fault-state : (f ≡ 0 → ⊥) → f ≡ blockRefusal s zs a b
+  unfolding blockRefusal
+  fault-state h = or-some f (stateRefusal s) _ e h
+
+  module _ (z : f ≡ 0) (lent : Bool) (q : lent ≡ (eqb (length zs % 2) 0 && leb (length zs / 2) a) && leb (length zs / 2) b) where
+    pub fault-lent : lent ≡ false → 7 ≡ blockRefusal s zs a b
+    unfolding blockRefusal
+    fault-lent h = rw (← e, z, ← lent-is s zs a b, ← q, h)
+
+    module _ (h : lent ≡ true) (r : Bool) (i : r ≡ each inRange (pairs zs)) where
+      pub fault-range : r ≡ false → 8 ≡ blockRefusal s zs a b
+      unfolding blockRefusal
+      fault-range k = rw (← e, z, ← lent-is s zs a b, ← q, h, ← i, k)
+
+      module _ (k : r ≡ true) where
+        room-last : room-number s zs a b ≡ blockRefusal s zs a b
+        unfolding blockRefusal
+        room-last = rw (← e, z, ← lent-is s zs a b, ← q, h, ← i, k, is-true (each (λ p. inSector (decide (s .mode) p)) (pairs zs)) (each-in-a-sector (s .mode) (pairs zs)))
+
+        pub fault-room : 4294967295 - s .place .0 < length zs / 2 → 16 ≡ blockRefusal s zs a b
+        unfolding hasRoom
+        fault-room l =
+            let n = pairs-length zs in
+            ap (λ (t : Bool). need t 16 0) (sym (lt-leb (s .place .0 + length (pairs zs)) 4294967295 (omega arith))) ∙ room-last
+
+        pub fault-none : s .place .0 ≤ 4294967295 → length zs / 2 ≤ 4294967295 - s .place .0 → 0 ≡ blockRefusal s zs a b
+        unfolding hasRoom
+        fault-none u l =
+            let n = pairs-length zs in
+            ap (λ (t : Bool). need t 16 0) (sym (le-leb (s .place .0 + length (pairs zs)) 4294967295 (omega arith))) ∙ room-last
+
+-- the call
+module _ (s : Receiver) (zs : List ℤ) (l p : List ℕ) where
+  pub refused-law : (f : ℕ) → f ≡ blockRefusal s zs (length l) (length p) → (f ≡ 0 → ⊥)
+      → (NotTaken f ≡ block s zs (length l) (length p)) × (l ≡ lineBytes s zs l (length p)) × (p ≡ plainBytes s zs (length l) p)
+  unfolding block lineBytes plainBytes
+  refused-law zero e h = absurd (h refl)
+  refused-law (suc n) e h = (
+    ap (λ (k : ℕ). accepted k (Taken (after s (map point (pairs zs)))) (NotTaken k)) e,
+    ap (λ (k : ℕ). accepted k (sets l 0 (map lineByte (outcomes s (pairs zs)))) l) e,
+    ap (λ (k : ℕ). accepted k (sets p 0 (map plainByte (outcomes s (pairs zs)))) p) e,
+  )
+
+  pub taken-law : (f : ℕ) (t : Receiver) (l′ p′ : List ℕ) → f ≡ blockRefusal s zs (length l) (length p) → f ≡ 0 → t ≡ after s (map point (pairs zs))
+      → l′ ≡ sets l 0 (map lineByte (outcomes s (pairs zs))) → p′ ≡ sets p 0 (map plainByte (outcomes s (pairs zs)))
+      → (Taken t ≡ block s zs (length l) (length p)) × (l′ ≡ lineBytes s zs l (length p)) × (p′ ≡ plainBytes s zs (length l) p)
+  unfolding block lineBytes plainBytes
+  taken-law f t l′ p′ e z et el ep =
+      let q : 0 ≡ blockRefusal s zs (length l) (length p) = sym z ∙ e in (
+        ap Taken et ∙ ap (λ (k : ℕ). accepted k (Taken (after s (map point (pairs zs)))) (NotTaken k)) q,
+        el ∙ ap (λ (k : ℕ). accepted k (sets l 0 (map lineByte (outcomes s (pairs zs)))) l) q,
+        ep ∙ ap (λ (k : ℕ). accepted k (sets p 0 (map plainByte (outcomes s (pairs zs)))) p) q,
+      )
+
+-- THE PASS OVER THE COORDINATES
+
+and-assoc : (a b c : Bool) → a && (b && c) ≡ (a && b) && c
+and-assoc true b c = refl
+and-assoc false b c = refl
+
+and-last : (a : Bool) → a && true ≡ a
+and-last true = refl
+and-last false = refl
+
+module _ (zs : List ℤ) (k : ℕ) (all : Bool) where
+  pub range-step : (r : Bool) → each inRange (pairs zs) ≡ all && each inRange (pairs (drop k zs)) → k + 1 < length zs
+      → r ≡ inRange (at (getD zs k (pos 0)) (getD zs (k + 1) (pos 0))) → each inRange (pairs zs) ≡ (all && r) && each inRange (pairs (drop (k + 2) zs))
+  range-step r e h q =
+      e ∙ ap (λ (ps : List Point). all && each inRange ps) (pairs-step zs k h)
+      ∙ and-assoc all (inRange (at (getD zs k (pos 0)) (getD zs (k + 1) (pos 0)))) _ ∙ ap (λ (b : Bool). (all && b) && each inRange (pairs (drop (k + 2) zs))) (sym q)
+
+  pub range-end : each inRange (pairs zs) ≡ all && each inRange (pairs (drop k zs)) → length zs ≤ k + 1 → all ≡ each inRange (pairs zs)
+  range-end e h = sym (e ∙ ap (λ (ps : List Point). all && each inRange ps) (pairs-end zs k h) ∙ and-last all)
+
+-- THE PASS THAT READS
+
+-- after the points before number k: what is left to take is all that is left to do
+pub record Hearing (s : Receiver) (line plain : List ℕ) (zs : List ℤ) (t : Receiver) (l p : List ℕ) (k : ℕ) : Type 0 where
+  pub place : k ≤ length zs / 2
+  pub line-long : length l ≡ length line
+  pub plain-long : length p ≡ length plain
+  pub free : EachAccepted t (pairs (drop (2 * k) zs))
+  pub state-left : after t (map point (pairs (drop (2 * k) zs))) ≡ after s (map point (pairs zs))
+  pub line-left : sets l k (map lineByte (outcomes t (pairs (drop (2 * k) zs)))) ≡ sets line 0 (map lineByte (outcomes s (pairs zs)))
+  pub plain-left : sets p k (map plainByte (outcomes t (pairs (drop (2 * k) zs)))) ≡ sets plain 0 (map plainByte (outcomes s (pairs zs)))
+
+pub hearing-start : (s : Receiver) (line plain : List ℕ) (zs : List ℤ) → EachAccepted s (pairs zs) → Hearing s line plain zs s line plain 0
+hearing-start s line plain zs f =
+    record { place = omega arith; line-long = refl; plain-long = refl; free = f; state-left = refl; line-left = refl; plain-left = refl }
+
+module _ (s : Receiver) (line plain : List ℕ) (zs : List ℤ) (t : Receiver) (l p : List ℕ) (k : ℕ) (h : Hearing s line plain zs t l p k) where
+  abbrev here : Point
+  here = at (getD zs (2 * k) (pos 0)) (getD zs (2 * k + 1) (pos 0))
+
+  abbrev rest : List Point
+  rest = pairs (drop (2 * (k + 1)) zs)
+
+  module _ (i : k < length zs / 2) where
+    now-here : pairs (drop (2 * k) zs) ≡ here ∷ rest
+    now-here = pairs-step zs (2 * k) (omega arith) ∙ ap (λ (n : ℕ). here ∷ pairs (drop n zs)) (let e : 2 * k + 2 ≡ 2 * (k + 1) = omega arith in e)
+
+    pub hearing-free : refusal t (point here) ≡ 0
+    hearing-free = subst (EachAccepted t) now-here (h .free) .0
+
+    pub hearing-step : (r : Step) (l′ p′ : List ℕ) → r ≡ step (outcome t (point here)) (next t (point here)) → l′ ≡ set l k (r .line) → p′ ≡ set p k (r .plain)
+        → length l′ ≡ length line → length p′ ≡ length plain → Hearing s line plain zs (r .next) l′ p′ (k + 1)
+    hearing-step r l′ p′ e el ep nl np =
+        let q = now-here in
+        let f = subst (EachAccepted t) q (h .free) in
+        let u : r .next ≡ next t (point here) = ap (λ (x : Step). x .next) e in
+        record {
+          place = omega arith;
+          line-long = nl;
+          plain-long = np;
+          free = subst (λ (v : Receiver). EachAccepted v rest) (sym u) (f .1);
+          state-left = ap (λ (v : Receiver). after v (map point rest)) u ∙ ap (λ (ps : List Point). after t (map point ps)) (sym q) ∙ h .state-left;
+          line-left = ap₂ (λ (v : Receiver) (m : List ℕ). sets m (k + 1) (map lineByte (outcomes v rest))) u (el ∙ ap (λ (x : Step). set l k (x .line)) e)
+              ∙ ap (λ (n : ℕ). sets (set l k (lineByte (outcome t (point here)))) n (map lineByte (outcomes (next t (point here)) rest))) (let z : k + 1 ≡ suc k = omega arith in z)
+              ∙ ap (λ (ps : List Point). sets l k (map lineByte (outcomes t ps))) (sym q) ∙ h .line-left;
+          plain-left = ap₂ (λ (v : Receiver) (m : List ℕ). sets m (k + 1) (map plainByte (outcomes v rest))) u (ep ∙ ap (λ (x : Step). set p k (x .plain)) e)
+              ∙ ap (λ (n : ℕ). sets (set p k (plainByte (outcome t (point here)))) n (map plainByte (outcomes (next t (point here)) rest))) (let z : k + 1 ≡ suc k = omega arith in z)
+              ∙ ap (λ (ps : List Point). sets p k (map plainByte (outcomes t ps))) (sym q) ∙ h .plain-left;
+        }
+
+  pub hearing-end : length zs / 2 ≤ k → (t ≡ after s (map point (pairs zs))) × (l ≡ sets line 0 (map lineByte (outcomes s (pairs zs)))) × (p ≡ sets plain 0 (map plainByte (outcomes s (pairs zs))))
+  hearing-end i =
+      let q : pairs (drop (2 * k) zs) ≡ [] = pairs-end zs (2 * k) (omega arith) in (
+        ap (λ (ps : List Point). after t (map point ps)) (sym q) ∙ h .state-left,
+        ap (λ (ps : List Point). sets l k (map lineByte (outcomes t ps))) (sym q) ∙ h .line-left,
+        ap (λ (ps : List Point). sets p k (map plainByte (outcomes t ps))) (sym q) ∙ h .plain-left,
+      )

@@ -1,0 +1,55 @@
+use native.Mathlib.Omega.{arith}
+use Rattle.blocks.proofs.BlockLaws.{plain-fits, take-reference, take-bits}
+use borrow.Author.Needs.{needs}
+use Rattle.blocks.proofs.take.Statement.{statement}
+use Rattle.blocks.proofs.take.Tie as tie
+use Rattle.blocks.proofs.take.Reads as reads
+use Rattle.blocks.proofs.take.Lts as lts
+use Rattle.blocks.proofs.moved.Reads as moved-reads
+use Rattle.line.proofs.group_of.Reads as group-of-reads
+use Rattle.scrambler.proofs.descramble_group.Reads as descramble-group-reads
+
+enum-told : tie.Need-enum-told
+enum-told c = search needs
+
+moved-requires : tie.Need-moved-requires
+moved-requires c κs = search needs
+
+enum-known-reference : tie.Need-enum-known-reference
+enum-known-reference c = search needs
+
+group-of-requires : tie.Need-group-of-requires
+group-of-requires c κs = search needs
+
+descramble-group-requires : tie.Need-descramble-group-requires
+descramble-group-requires c κs = search needs
+
+mul-plain : tie.Need-mul-plain
+mul-plain c = omega (arith, plain-fits _ _ _ _ _ (c .before .before .descramble-group .ensures))
+
+add-plain : tie.Need-add-plain
+add-plain c = omega (arith, plain-fits _ _ _ _ _ (c .before .before .before .descramble-group .ensures))
+
+moved-requires-2 : tie.Need-moved-requires-2
+moved-requires-2 c κs = search needs
+
+returns : tie.Need-returns
+returns c = take-reference _ _ _ _ (search needs) (c .moved .ensures)
+
+returns-2 : tie.Need-returns-2
+returns-2 c = take-bits _ _ _ _ _ _ _ (search needs) (c .before .before .before .before .before .group-of .ensures) (c .before .before .before .before .descramble-group .ensures) (c .moved2 .ensures)
+
+pub take-spec : {M : Type 1} → statement M
+take-spec =
+    tie.close
+    (tie.spec
+    enum-told
+    moved-requires
+    enum-known-reference
+    group-of-requires
+    descramble-group-requires
+    mul-plain
+    add-plain
+    moved-requires-2
+    returns
+    returns-2)

@@ -1,0 +1,165 @@
+// Many points by one call: the state is looked at once, then the coordinates, then each point is read.
+ghost use mathlib.Core.Path.{_≡_};
+ghost use mathlib.Core.Bool.{Bool};
+ghost use mathlib.Core.List.{map};
+ghost use Prim.Native.Nat.{_+_, _/_, _<_, _≤_};
+ghost use lib.ListN.{length};
+ghost use lib.Seq.{sets};
+ghost use Rattle.line.specs.Point.{at, pairs, inRange};
+ghost use Rattle.receiver.specs.Receiver.{receiver, point, refusal, stateNext, forgotten, next};
+ghost use Rattle.receiver.specs.Outcome.{stateOutcome, gapOutcome, outcome};
+ghost use Rattle.receiver.specs.Calls.{after};
+ghost use Rattle.blocks.specs.Block.{lineByte, plainByte, outcomes, EachAccepted, each, blockRefusal, block, lineBytes, plainBytes, step};
+use receiver::Intervals;
+use receiver::Receiver;
+use receiver::Reference;
+use scrambler::Register;
+
+// The state after all points, or the number that refuses them.
+pub enum Block {
+    Refused(u8),
+    Taken(Receiver),
+}
+
+// The two bytes of a point, and the state after it.
+pub struct Step {
+    pub line: u8,
+    pub plain: u8,
+    pub next: Receiver,
+}
+
+// The state one interval on.
+fn moved(s: Receiver, reference: Reference, line: Register) -> Receiver
+    requires { ⌜ s .place .0 < 4294967295 ⌝ }
+    ensures { λ r. ⌜ r ≡ receiver (s .mode) (s .role) reference line (s .place .0 + 1) ⌝ }
+{
+    Receiver {
+        mode: s.mode,
+        role: s.role,
+        reference,
+        line,
+        place: Intervals(s.place.0 + 1),
+    }
+}
+
+// A point decided as the state y.
+fn take(s: Receiver, y: u8) -> Step
+    requires { ⌜ s .place .0 < 4294967295 ⌝ }
+    ensures { λ r. ⌜ r ≡ step (stateOutcome s (s .reference) y) (stateNext s (s .reference) y) ⌝ }
+{
+    let reference = s.reference;
+    let h = s.line;
+    match reference {
+        Reference::Nothing => {
+            let next = moved(s, Reference::State(y), h);
+            Step {
+                line: 16,
+                plain: 0,
+                next,
+            }
+        }
+        Reference::State(x) => {
+            let line = line::group_of(s.mode, x, y);
+            let d = scrambler::descramble_group(s.mode, s.role, h, line);
+            let after = d.next;
+            let plain = 16 * d.unsettled.0 + d.plain;
+            let next = moved(s, Reference::State(y), after);
+            Step { line, plain, next }
+        }
+    }
+}
+
+// The origin: a gap of one interval.
+fn lose(s: Receiver) -> Step
+    requires { ⌜ s .place .0 < 4294967295 ⌝ }
+    ensures { λ r. ⌜ r ≡ step (gapOutcome s 1) (forgotten s 1) ⌝ }
+{
+    let line = scrambler::fresh_register();
+    let next = moved(s, Reference::Nothing, line);
+    Step {
+        line: 17,
+        plain: 0,
+        next,
+    }
+}
+
+// A point that nothing refuses, so that it is in a sector.
+fn hear(s: Receiver, re: i16, im: i16) -> Step
+    requires { ⌜ refusal s (point (at re im)) ≡ 0 ⌝ }
+    ensures { λ r. ⌜ r ≡ step (outcome s (point (at re im))) (next s (point (at re im))) ⌝ }
+{
+    let decision = line::decide(s.mode, re, im);
+    match decision {
+        line::Decision::State(y) => take(s, y),
+        line::Decision::Origin => lose(s),
+        line::Decision::NoSector => lose(s),
+    }
+}
+
+// Points that nothing refuses.
+fn hear_all(s: Receiver, points: &[i16], line: &mut [u8], plain: &mut [u8]) -> Receiver
+    requires { ⌜ EachAccepted s (pairs (now points)) × (length (now points) / 2 ≤ length (now line)) × (length (now points) / 2 ≤ length (now plain)) ⌝ }
+    ensures { λ r. ⌜ (r ≡ after s (map point (pairs (now (points .entry)))))
+        × (now (line .exit) ≡ sets (now (line .entry)) 0 (map lineByte (outcomes s (pairs (now (points .entry))))))
+        × (now (plain .exit) ≡ sets (now (plain .entry)) 0 (map plainByte (outcomes s (pairs (now (points .entry)))))) ⌝ }
+{
+    let n = points.len() / 2;
+    let mut t = s;
+    let mut k = 0;
+    while k < n {
+        let h = hear(t, points[2 * k], points[2 * k + 1]);
+        line[k] = h.line;
+        plain[k] = h.plain;
+        let next = h.next;
+        t = next;
+        k += 1;
+    }
+    t
+}
+
+// Whether every point is in range. All are looked at, since nearly always all are.
+fn all_in_range(points: &[i16]) -> bool
+    ensures { λ r. ⌜ r ≡ each inRange (pairs (now (points .entry))) ⌝ }
+{
+    let mut all = true;
+    let mut k = 0;
+    while k + 1 < points.len() {
+        all = all & line::in_range(points[k], points[k + 1]);
+        k += 2;
+    }
+    all
+}
+
+// The number that refuses a block with a and b lent bytes, 0 for none. Number 10 is not looked for: no point is in no sector.
+fn block_fault(s: Receiver, points: &[i16], a: usize, b: usize) -> u8
+    ensures { λ r. ⌜ r ≡ blockRefusal s (now (points .entry)) a b ⌝ }
+{
+    let fault = receiver::state_fault(s);
+    if fault != 0 {
+        return fault;
+    }
+    let n = points.len() / 2;
+    if (points.len() % 2 == 0) & (n <= a) & (n <= b) {
+        if all_in_range(points) {
+            if n <= (4294967295 - s.place.0) as usize {
+                return 0;
+            }
+            return 16;
+        }
+        return 8;
+    }
+    7
+}
+
+// Takes points, re and im in turn, all or none, and writes the two bytes of each.
+pub fn receive_points(s: Receiver, points: &[i16], line: &mut [u8], plain: &mut [u8]) -> Block
+    ensures { λ r. ⌜ (r ≡ block s (now (points .entry)) (length (now (line .entry))) (length (now (plain .entry))))
+        × (now (line .exit) ≡ lineBytes s (now (points .entry)) (now (line .entry)) (length (now (plain .entry))))
+        × (now (plain .exit) ≡ plainBytes s (now (points .entry)) (length (now (line .entry))) (now (plain .entry))) ⌝ }
+{
+    let fault = block_fault(s, points, line.len(), plain.len());
+    if fault != 0 {
+        return Block::Refused(fault);
+    }
+    Block::Taken(hear_all(s, points, line, plain))
+}
