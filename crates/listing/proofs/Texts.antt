@@ -7,8 +7,8 @@ use native.Mathlib.Omega.{arith}
 use native.Mathlib.Nat.{zero-add}
 use borrow.Author.Tests.{le-leb, lt-leb}
 use lib.Dec.{leb}
-use lib.ListN.{length, getD, length-append}
-use lib.Seq.{sets}
+use lib.ListN.{length, getD, take, drop, length-append}
+use lib.Seq.{sets, sets-eq, take-at}
 use Rattle.line.specs.Refusal.{need, accepted}
 use Rattle.receiver.specs.declared.Receiver.{Receiver}
 use Rattle.receiver.specs.Receiver.{freshReceiver}
@@ -18,7 +18,7 @@ use Rattle.store.proofs.Records.{rec-byte}
 use Rattle.listing.specs.Text.{lines, firstLine, chainText, refusedLine, modeIn, roleIn, text, longest, listNumber, listCount, listResult}
 use Rattle.listing.specs.Wrote.{Wrote}
 use Rattle.listing.proofs.Writes.{wrote-then, wrote-as}
-use Rattle.listing.proofs.Lengths.{track-long}
+use Rattle.listing.proofs.Lengths.{track-long, text-long}
 
 accepted-text : (s : List ℕ) → refusal s ≡ 0 → text s ≡ chainText (modeIn s) (roleIn s) (total s) (events s)
 unfolding text
@@ -70,3 +70,18 @@ refused-over s h = rw (lt-leb (length s) 65536 h, and-no)
 pub text-over : (s t : List ℕ) → 65536 < length s → 65536 < length t → text s ≡ text t
 text-over s t h k =
     sym (refused-text s [] 11 (refused-over s h) (λ e. omega arith)) ∙ refused-text t [] 11 (refused-over t k) (λ e. omega arith)
+
+-- what a caller with room for any listing reads back
+pub text-back : (s out out′ : List ℕ) (n : ℕ) → length out ≡ longest → n ≡ listCount s (length out) → out′ ≡ listResult s out
+    → (n ≡ length (text s)) × (take n out′ ≡ text s) × ((n ≤ length out′) × (n ≡ length (take n out′)))
+unfolding listNumber listCount listResult
+text-back s out out′ n l e w =
+    let t : leb longest (length out) ≡ true = le-leb longest (length out) (omega arith) in
+    let count : n ≡ length (text s) = rw t at e in
+    let whole : out′ ≡ text s ++ drop (0 + length (text s)) out = (rw t at w) ∙ sets-eq (text s) out 0 (omega (arith, text-long s)) in
+    let first : take n out′ ≡ text s = ap (take n) whole ∙ take-at (text s) (drop (0 + length (text s)) out) n (sym count) in
+    (
+      count,
+      first,
+      (omega (arith, count, ap length whole, length-append (text s) (drop (0 + length (text s)) out)), count ∙ sym (ap length first)),
+    )
