@@ -122,7 +122,7 @@ numbers-then out out′ p q xs ys e f =
     ∙ ap (sets out p) (sym (numbers-append xs ys))
 
 -- ---- the points of a record
-points-next : (r : List ℕ) (n k : ℕ) → k < n
+pub points-next : (r : List ℕ) (n k : ℕ) → k < n
     → points (drop (4 + 4 * k) r) (n - k) ≡ point (at (i16 r (4 + 4 * k)) (i16 r (4 + 4 * k + 2))) ∷ points (drop (4 + 4 * (k + 1)) r) (n - (k + 1))
 points-next r n k h =
     ap (points (drop (4 + 4 * k) r)) (let e : n - k ≡ suc (n - (k + 1)) = omega arith in e)

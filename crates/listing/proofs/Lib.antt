@@ -1,0 +1,5 @@
+pub mod Digits
+pub mod Writes
+pub mod Lines
+pub mod Lengths
+pub mod Texts

@@ -1,0 +1,87 @@
+-- The pieces of a listing make its text. Assumes nothing.
+use mathlib.Core.Path.{_≡_, refl, sym, ap, ap₂, _∙_}
+use mathlib.Core.Bool.{Bool, true, false, _&&_}
+use mathlib.Core.List.{List, [], _∷_, _++_}
+use Prim.Native.Nat.{ℕ, zero, suc, _+_, _≤_, _<_}
+use native.Mathlib.Omega.{arith}
+use native.Mathlib.Nat.{zero-add}
+use borrow.Author.Tests.{le-leb, lt-leb}
+use lib.Dec.{leb}
+use lib.ListN.{length, getD, take, drop, length-append}
+use lib.Seq.{sets, sets-eq, take-at}
+use Rattle.line.specs.Refusal.{need, accepted}
+use Rattle.receiver.specs.declared.Receiver.{Receiver}
+use Rattle.receiver.specs.Receiver.{freshReceiver}
+use Rattle.store.specs.Layout.{rec}
+use Rattle.store.specs.Store.{events, total, sizeOk, refusal}
+use Rattle.store.proofs.Records.{rec-byte}
+use Rattle.listing.specs.Text.{lines, firstLine, chainText, refusedLine, modeIn, roleIn, text, longest, listNumber, listCount, listResult}
+use Rattle.listing.specs.Wrote.{Wrote}
+use Rattle.listing.proofs.Writes.{wrote-then, wrote-as}
+use Rattle.listing.proofs.Lengths.{track-long, text-long}
+
+accepted-text : (s : List ℕ) → refusal s ≡ 0 → text s ≡ chainText (modeIn s) (roleIn s) (total s) (events s)
+unfolding text
+accepted-text s e = rw e
+
+module _ (s : List ℕ) (m role t : ℕ) (f : Receiver) (acc : refusal s ≡ 0) (em : m ≡ getD s 4 0) (er : role ≡ getD s 5 0) (et : t ≡ total s) (ef : f ≡ freshReceiver m role) where
+  track-text : firstLine m role t ++ lines f (events s) ≡ text s
+  unfolding chainText
+  track-text =
+      let p : m ≡ modeIn s = em ∙ sym (rec-byte s 0 4 (omega arith)) in
+      let q : role ≡ roleIn s = er ∙ sym (rec-byte s 0 5 (omega arith)) in
+      rw (ef, p, q, et) (sym (accepted-text s acc))
+
+  pub track-room : (p : ℕ) → p ≡ 0 + length (firstLine m role t) → p + length (lines f (events s)) ≤ 500000
+  track-room p e =
+      omega (arith, length-append (firstLine m role t) (lines f (events s)), ap length track-text, ap length (accepted-text s acc), track-long s acc)
+
+  pub track-wrote : {o o₁ o′ : List ℕ} {p q : ℕ} → Wrote o 0 (firstLine m role t) o₁ p → Wrote o₁ p (lines f (events s)) o′ q → Wrote o 0 (text s) o′ q
+  track-wrote a b = wrote-as track-text (wrote-then a b)
+
+-- ---- the call
+module _ (s out : List ℕ) where
+  pub list-short : length out < longest → (7 ≡ listNumber (length out)) × (0 ≡ listCount s (length out)) × (out ≡ listResult s out)
+  unfolding listNumber listCount listResult
+  list-short h = let e : leb longest (length out) ≡ false = lt-leb longest (length out) h in (rw e, rw e, rw e)
+
+  pub list-done : (out′ : List ℕ) (n : ℕ) → longest ≤ length out → Wrote out 0 (text s) out′ n
+      → (0 ≡ listNumber (length out)) × (n ≡ listCount s (length out)) × (out′ ≡ listResult s out)
+  unfolding listNumber listCount listResult
+  list-done out′ n h w = let e : leb longest (length out) ≡ true = le-leb longest (length out) h in (rw e, rw e (w .behind ∙ zero-add (length (text s))), rw e (w .written))
+
+  pub refused-text : (k : ℕ) → k ≡ refusal s → (k ≡ 0 → ⊥) → refusedLine k ≡ text s
+  unfolding text
+  refused-text k e nz = go (refusal s) e
+    where
+      go : (n : ℕ) → k ≡ n → refusedLine k ≡ accepted n (chainText (modeIn s) (roleIn s) (total s) (events s)) (refusedLine n)
+      go zero q = absurd (nz q)
+      go (suc n) q = ap refusedLine q
+
+-- a store that is too long is listed by its size alone: a program need keep no more than 65,537 of its bytes
+and-no : (b : Bool) → (b && false) ≡ false
+and-no true = refl
+and-no false = refl
+
+refused-over : (s : List ℕ) → 65536 < length s → 11 ≡ refusal s
+unfolding refusal sizeOk
+refused-over s h = rw (lt-leb (length s) 65536 h, and-no)
+
+pub text-over : (s t : List ℕ) → 65536 < length s → 65536 < length t → text s ≡ text t
+text-over s t h k =
+    sym (refused-text s [] 11 (refused-over s h) (λ e. omega arith)) ∙ refused-text t [] 11 (refused-over t k) (λ e. omega arith)
+
+-- what a caller with room for any listing reads back
+pub text-back : (s out out′ : List ℕ) (n : ℕ) → length out ≡ longest → n ≡ listCount s (length out) → out′ ≡ listResult s out
+    → (n ≡ length (text s)) × (take n out′ ≡ text s) × ((n ≤ length out′) × (n ≡ length (take n out′)))
+unfolding listNumber listCount listResult
+text-back s out out′ n l e w =
+    let t : leb longest (length out) ≡ true = le-leb longest (length out) (omega arith) in
+    let count : n ≡ length (text s) = rw t at e in
+    let whole : out′ ≡ text s ++ drop (0 + length (text s)) out = (rw t at w) ∙ sets-eq (text s) out 0 (omega (arith, text-long s)) in
+    let first : take n out′ ≡ text s = ap (take n) whole ∙ take-at (text s) (drop (0 + length (text s)) out) n (sym count) in
+    (
+      count,
+      first,
+      (omega (arith, count, ap length whole, length-append (text s) (drop (0 + length (text s)) out)), count ∙ sym (ap length first)),
+    )

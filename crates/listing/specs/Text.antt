@@ -1,0 +1,132 @@
+-- Document 01, "Listing program": the bytes of a store's listing, in ASCII.
+use mathlib.Core.Bool.{cond}
+use mathlib.Core.List.{List, [], _∷_, _++_, map}
+use Prim.Native.Nat.{ℕ, zero, suc, _+_, _/_, _%_}
+use lib.Dec.{ltb, leb}
+use lib.ListN.{length, getD}
+use lib.Seq.{sets}
+use Rattle.line.specs.Refusal.{need, accepted}
+use Rattle.scrambler.specs.Scramble.{Datum, unsettled, settled}
+use Rattle.receiver.specs.declared.Receiver.{Receiver}
+use Rattle.receiver.specs.Receiver.{freshReceiver, Answer, refused, reference, decoded, lost, answer, next}
+use Rattle.receiver.specs.Receiver.{Event as Heard, point as hears, gap}
+use Rattle.store.specs.Layout.{Event, point, rec}
+use Rattle.store.specs.Layout.{lost as lostFor}
+use Rattle.store.specs.Store.{events, total, refusal}
+
+-- NUMBERS AND WORDS
+
+-- the decimal digits of n with no zero in front, at most k of them
+abbrev pub digits : ℕ → ℕ → List ℕ
+digits zero n = []
+digits (suc k) n = cond (ltb n 10) ((48 + n) ∷ []) (digits k (n / 10) ++ ((48 + n % 10) ∷ []))
+
+-- ten hold every number that is listed, since none is above 4294967295
+unfoldable pub decimal : ℕ → List ℕ
+decimal n = digits 10 n
+
+-- "track mode ", " role ", " total ", " ref", " bits ", " lost ", "refused "
+abbrev pub trackMode : List ℕ
+trackMode = 116 ∷ 114 ∷ 97 ∷ 99 ∷ 107 ∷ 32 ∷ 109 ∷ 111 ∷ 100 ∷ 101 ∷ 32 ∷ []
+
+abbrev pub itsRole : List ℕ
+itsRole = 32 ∷ 114 ∷ 111 ∷ 108 ∷ 101 ∷ 32 ∷ []
+
+abbrev pub itsTotal : List ℕ
+itsTotal = 32 ∷ 116 ∷ 111 ∷ 116 ∷ 97 ∷ 108 ∷ 32 ∷ []
+
+abbrev pub ref : List ℕ
+ref = 32 ∷ 114 ∷ 101 ∷ 102 ∷ []
+
+abbrev pub bitsAre : List ℕ
+bitsAre = 32 ∷ 98 ∷ 105 ∷ 116 ∷ 115 ∷ 32 ∷ []
+
+abbrev pub lostAre : List ℕ
+lostAre = 32 ∷ 108 ∷ 111 ∷ 115 ∷ 116 ∷ 32 ∷ []
+
+abbrev pub refusedBy : List ℕ
+refusedBy = 114 ∷ 101 ∷ 102 ∷ 117 ∷ 115 ∷ 101 ∷ 100 ∷ 32 ∷ []
+
+abbrev pub blank : List ℕ
+blank = 32 ∷ []
+
+abbrev pub lineEnd : List ℕ
+lineEnd = 10 ∷ []
+
+-- THE LINE OF AN EVENT
+
+-- a data bit: `0`, `1`, or `-` unsettled; a line bit reads as a settled one
+abbrev pub glyph : Datum → ℕ
+glyph unsettled = 45
+glyph (settled b) = 48 + b
+
+abbrev pub glyphs : List Datum → List ℕ
+glyphs ds = map glyph ds
+
+abbrev pub lineGlyphs : List ℕ → List ℕ
+lineGlyphs bs = map (λ (b : ℕ). glyph (settled b)) bs
+
+-- kind, and bits (line, then data) or count; nothing for a refused event, which an accepted store does not hold
+unfoldable pub kindText : Answer → List ℕ
+kindText (refused n) = []
+kindText reference = ref
+kindText (decoded ls ds) = bitsAre ++ (lineGlyphs ls ++ (blank ++ glyphs ds))
+kindText (lost n) = lostAre ++ decimal n
+
+-- the place before the event, then its kind
+unfoldable pub lineText : ℕ → Answer → List ℕ
+lineText place a = decimal place ++ (kindText a ++ lineEnd)
+
+-- a store's event as a receiver takes it
+abbrev pub taken : Event → Heard
+taken (point p) = hears p
+taken (lostFor n) = gap n
+
+-- a line for each event, and the receiver after them
+abbrev pub lines : Receiver → List Event → List ℕ
+lines s [] = []
+lines s (e ∷ es) = lineText (s .place .0) (answer s (taken e)) ++ lines (next s (taken e)) es
+
+abbrev pub through : Receiver → List Event → Receiver
+through s [] = s
+through s (e ∷ es) = through (next s (taken e)) es
+
+-- THE LISTING
+
+-- mode, role, total
+unfoldable pub firstLine : ℕ → ℕ → ℕ → List ℕ
+firstLine m role t = trackMode ++ (decimal m ++ (itsRole ++ (decimal role ++ (itsTotal ++ (decimal t ++ lineEnd)))))
+
+-- a chain's listing: its first line, and the events as a fresh receiver hears them
+unfoldable pub chainText : ℕ → ℕ → ℕ → List Event → List ℕ
+chainText m role t es = firstLine m role t ++ lines (freshReceiver m role) es
+
+unfoldable pub refusedLine : ℕ → List ℕ
+refusedLine n = refusedBy ++ (decimal n ++ lineEnd)
+
+abbrev pub modeIn : List ℕ → ℕ
+modeIn s = getD (rec s 0) 4 0
+
+abbrev pub roleIn : List ℕ → ℕ
+roleIn s = getD (rec s 0) 5 0
+
+-- "a refused store prints one line and nothing else"
+unfoldable pub text : List ℕ → List ℕ
+text s = accepted (refusal s) (chainText (modeIn s) (roleIn s) (total s) (events s)) (refusedLine (refusal s))
+
+-- a buffer that holds any listing: the longest first line, and 2,047 records of seven lines with bits. That no text is longer is
+-- the law `text-long` of proofs/Lengths.
+abbrev pub longest : ℕ
+longest = 372591
+
+-- 7: too few lent bytes
+unfoldable pub listNumber : ℕ → ℕ
+listNumber room = need (leb longest room) 7 0
+
+-- how many bytes were written
+unfoldable pub listCount : List ℕ → ℕ → ℕ
+listCount s room = accepted (listNumber room) (length (text s)) 0
+
+-- the lent bytes after the call: the text at their start, the others as they were
+unfoldable pub listResult : List ℕ → List ℕ → List ℕ
+listResult s out = accepted (listNumber (length out)) (sets out 0 (text s)) out

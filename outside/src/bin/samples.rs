@@ -1,0 +1,190 @@
+//! Writes sample stores (NAME.vsym) and their listings (NAME.txt) into a folder:
+//! a few to read, or many random ones to compare listings over. The bytes are
+//! the same on every run.
+
+use std::env;
+use std::fs;
+use std::io;
+use std::path::Path;
+use std::process::ExitCode;
+
+use outside::listing;
+use outside::mode::Mode;
+use outside::point::Point;
+use outside::rng::Rng;
+use outside::sender::{self, Sender};
+use outside::store::{append_lost, append_point, append_points, make, MOST_RECORDS, RECORD};
+
+/// The random stores of `--many`.
+const MANY: u64 = 240;
+
+fn main() -> ExitCode {
+    let arguments: Vec<String> = env::args().skip(1).collect();
+    let written = match arguments.as_slice() {
+        [folder] => write_samples(Path::new(folder)),
+        [many, folder] if many == "--many" => write_many(Path::new(folder)),
+        _ => {
+            eprintln!("usage: samples FOLDER | samples --many FOLDER");
+            return ExitCode::from(2);
+        }
+    };
+    match written {
+        Ok(()) => ExitCode::SUCCESS,
+        Err(error) => {
+            eprintln!("samples: {error}");
+            ExitCode::FAILURE
+        }
+    }
+}
+
+fn write_samples(folder: &Path) -> io::Result<()> {
+    write_store(folder, "example", &example())?;
+    write_store(folder, "mode1", &spliced(1, 0))?;
+    write_store(folder, "mode2", &trained())?;
+    write_store(folder, "mode3", &spliced(3, 1))?;
+    write_store(folder, "mode4", &spliced(4, 0))?;
+    write_store(folder, "empty", &made(2, 4, 1))?;
+    write_store(folder, "damaged", &damaged())
+}
+
+fn write_store(folder: &Path, name: &str, store: &[u8]) -> io::Result<()> {
+    fs::write(folder.join(format!("{name}.vsym")), store)?;
+    fs::write(folder.join(format!("{name}.txt")), listing::list(store))
+}
+
+fn made(records: usize, mode: u8, role: u8) -> Vec<u8> {
+    let mut store = vec![0; records * RECORD];
+    make(&mut store, mode, role).unwrap();
+    store
+}
+
+/// The example of document 01.
+fn example() -> Vec<u8> {
+    let mut store = made(4, 1, 0);
+    append_point(&mut store, 4096, 0).unwrap();
+    append_point(&mut store, 0, 4096).unwrap();
+    append_lost(&mut store, 3).unwrap();
+    append_point(&mut store, -4096, 0).unwrap();
+    store
+}
+
+/// A sender after its shortest training, and the training's points.
+fn opened(mode: u8, role: u8) -> (Sender, Vec<Point>) {
+    let (length, intervals) = if mode <= 2 { (0, 80) } else { (1280, 1552) };
+    let mut out = vec![0; 2 * intervals];
+    let state = sender::open(mode, role, length, &mut out, 0).unwrap();
+    (state, pairs(&out))
+}
+
+/// Data points of random bits, and the sender after them.
+fn sent(state: Sender, rng: &mut Rng, points: usize) -> (Sender, Vec<Point>) {
+    let width = Mode::find(state.mode).unwrap().width as usize;
+    let mut out = vec![0; 2 * points];
+    let next = sender::send(state, &rng.bits(points * width), &mut out, 0).unwrap();
+    (next, pairs(&out))
+}
+
+fn pairs(numbers: &[i16]) -> Vec<Point> {
+    let point = |pair: &[i16]| Point {
+        re: pair[0],
+        im: pair[1],
+    };
+    numbers.chunks_exact(2).map(point).collect()
+}
+
+/// Data points with a loss, an origin point and a loss that takes the place far on.
+fn spliced(mode: u8, role: u8) -> Vec<u8> {
+    let mut rng = Rng::new(u64::from(mode));
+    let mut store = made(24, mode, role);
+    let (state, _) = opened(mode, role);
+    let (state, points) = sent(state, &mut rng, 17);
+    append_points(&mut store, &points).unwrap();
+    append_lost(&mut store, 250).unwrap();
+    let (state, points) = sent(state, &mut rng, 18);
+    append_points(&mut store, &points).unwrap();
+    append_point(&mut store, 0, 0).unwrap();
+    let (state, points) = sent(state, &mut rng, 9);
+    append_points(&mut store, &points).unwrap();
+    append_lost(&mut store, 4_000_000_000).unwrap();
+    let (_, points) = sent(state, &mut rng, 16);
+    append_points(&mut store, &points).unwrap();
+    store
+}
+
+/// V.27 ter's short training at 4800 bit/s, a loss inside it, and data after it.
+fn trained() -> Vec<u8> {
+    let mut rng = Rng::new(2);
+    let mut store = made(20, 2, 0);
+    let (state, training) = opened(2, 0);
+    append_points(&mut store, &training[..30]).unwrap();
+    append_lost(&mut store, 12).unwrap();
+    append_points(&mut store, &training[42..]).unwrap();
+    append_point(&mut store, 0, 0).unwrap();
+    let (_, points) = sent(state, &mut rng, 12);
+    append_points(&mut store, &points).unwrap();
+    store
+}
+
+/// A chain that leads past the end of its store.
+fn damaged() -> Vec<u8> {
+    let mut store = spliced(4, 0);
+    store[2 * RECORD] = 24;
+    store
+}
+
+/// Random stores of all modes and sizes, some damaged, and one that is too long.
+fn write_many(folder: &Path) -> io::Result<()> {
+    for seed in 0..MANY {
+        let mut rng = Rng::new(1000 + seed);
+        write_store(folder, &format!("random{seed}"), &random(&mut rng, seed))?;
+    }
+    write_store(folder, "none", &[])?;
+    write_store(folder, "full", &full())?;
+    write_store(folder, "long", &vec![0; 3 * MOST_RECORDS * RECORD])
+}
+
+fn random(rng: &mut Rng, seed: u64) -> Vec<u8> {
+    let mode = 1 + (seed % 4) as u8;
+    let role = if mode <= 2 { 0 } else { rng.below(2) as u8 };
+    let records = if seed % 8 == 0 {
+        MOST_RECORDS
+    } else {
+        2 + rng.below(60) as usize
+    };
+    let mut store = made(records, mode, role);
+    while append_some(&mut store, rng) {}
+    if seed % 5 == 4 {
+        let at = rng.below(store.len().min(8 * RECORD) as u64) as usize;
+        store[at] ^= 1 << rng.below(8);
+    }
+    store
+}
+
+/// Appends points, among them the origin and edges, or a loss: whether there was room.
+fn append_some(store: &mut [u8], rng: &mut Rng) -> bool {
+    if rng.below(6) == 0 {
+        let n = if rng.below(40) == 0 {
+            100_000_000
+        } else {
+            rng.below(300) as u32
+        };
+        return append_lost(store, 1 + n).is_ok();
+    }
+    let most = if rng.below(3) == 0 { 2 } else { 16384 };
+    let points: Vec<Point> = (0..1 + rng.below(30))
+        .map(|_| Point {
+            re: rng.between(-most, most) as i16,
+            im: rng.between(-most, most) as i16,
+        })
+        .collect();
+    append_points(store, &points).is_ok()
+}
+
+/// The longest listing but a few bytes: a great loss, and then points alone.
+fn full() -> Vec<u8> {
+    let mut store = made(MOST_RECORDS, 4, 0);
+    append_lost(&mut store, 4_294_952_000).unwrap();
+    let points = vec![Point { re: 3072, im: 1024 }; 7 * (MOST_RECORDS - 2)];
+    append_points(&mut store, &points).unwrap();
+    store
+}
