@@ -140,7 +140,7 @@ uint8_t kerambiu_read(const uint8_t *store, size_t store_len, int64_t *out, size
  * the one line `refused N` for its listing, so only 7 refuses the call: fewer than KERAMBIU_LISTING_BYTES lent bytes, more than
  * any listing takes, or no lent number for the count.
  */
-#define KERAMBIU_LISTING_BYTES 400000
+#define KERAMBIU_LISTING_BYTES 372591
 uint8_t kerambiu_list(const uint8_t *store, size_t store_len, uint8_t *out, size_t out_len, size_t *count, size_t count_len);
 
 #ifdef __cplusplus

@@ -8,7 +8,10 @@ ghost use Rattle.lent.specs.Receiving.{freshNumber, freshState, callNumber, cal
 ghost use Rattle.lent.specs.Sending.{openNumber, openState, openOut, sendNumber, sendState, sendOut};
 ghost use lib.ListN.{length};
 ghost use Rattle.store.specs.Reading.{readNumber, readCount, readResult};
+ghost use Rattle.listing.specs.Text.{listNumber, listCount, listResult};
+ghost use Rattle.capi.specs.Blocks.{blockNumber, blockState, blockLine, blockPlain, takenNumber, takenState};
 ghost use Rattle.capi.specs.Counted.{countedNumber, countedOut, countedCounts};
+use blocks::Block;
 use lent::hand_back;
 use lent::load_receiver;
 use lent::load_sender;
@@ -64,6 +67,37 @@ pub extern "C" fn kerambiu_receive_gap(state: &mut [u8], n: u32, answer: &mut [u
     }
     let o = receiver::receive_gap(load_receiver(state), n);
     hand_back(state, answer, o)
+}
+
+// Writes the state that a block hands back: 0, or the number that refuses it.
+fn put_taken(state: &mut [u8], block: Block) -> u8
+    ensures { λ r. ⌜ (r ≡ takenNumber block) × (now (state .exit) ≡ takenState block (now (state .entry))) ⌝ }
+{
+    match block {
+        Block::Refused(n) => n,
+        Block::Taken(t) => {
+            put_all(state, 0, &receiver_bytes(t));
+            0
+        }
+    }
+}
+
+// Points, re and im in turn, all or none, with a byte of line bits and one of data bits for each: 0, or the number that refuses
+// them.
+#[no_mangle]
+pub extern "C" fn kerambiu_receive_points(
+    state: &mut [u8],
+    points: &[i16],
+    line: &mut [u8],
+    plain: &mut [u8],
+) -> u8
+    ensures { λ r. ⌜ (r ≡ blockNumber (now (state .entry)) (now (points .entry)) (length (now (line .entry))) (length (now (plain .entry)))) × (now (state .exit) ≡ blockState (now (state .entry)) (now (points .entry)) (length (now (line .entry))) (length (now (plain .entry)))) × (now (line .exit) ≡ blockLine (now (state .entry)) (now (points .entry)) (now (line .entry)) (length (now (plain .entry)))) × (now (plain .exit) ≡ blockPlain (now (state .entry)) (now (points .entry)) (length (now (line .entry))) (now (plain .entry))) ⌝ }
+{
+    if state.len() < 16 {
+        return 7;
+    }
+    let block = blocks::receive_points(load_receiver(state), points, line, plain);
+    put_taken(state, block)
 }
 
 // ---- the sender's calls
@@ -156,4 +190,19 @@ pub extern "C" fn kerambiu_read(
         count[0] = reading.count;
     }
     reading.number
+}
+
+// Writes the listing of a store into `out`, and how many bytes it has into `count`: 0, or the number that refuses it.
+#[no_mangle]
+pub extern "C" fn kerambiu_list(store: &[u8], out: &mut [u8], count: &mut [usize]) -> u8
+    ensures { λ r. ⌜ (r ≡ countedNumber (now (count .entry)) (listNumber (length (now (out .entry))))) × (now (out .exit) ≡ countedOut (now (count .entry)) (listResult (now (store .entry)) (now (out .entry))) (now (out .entry))) × (now (count .exit) ≡ countedCounts (now (count .entry)) (listNumber (length (now (out .entry)))) (listCount (now (store .entry)) (length (now (out .entry))))) ⌝ }
+{
+    if count.len() < 1 {
+        return 7;
+    }
+    let listed = listing::list(store, out);
+    if listed.number == 0 {
+        count[0] = listed.count;
+    }
+    listed.number
 }

@@ -2,7 +2,7 @@
 //! number that refuses the call.
 
 /// The lent bytes that a listing takes (KERAMBIU_LISTING_BYTES).
-pub const LISTING_BYTES: usize = 400_000;
+pub const LISTING_BYTES: usize = 372_591;
 
 mod c {
     #[link(name = "capi", kind = "static")]
