@@ -79,8 +79,7 @@ text-back s out out′ n l e w =
     let t : leb longest (length out) ≡ true = le-leb longest (length out) (omega arith) in
     let count : n ≡ length (text s) = rw t at e in
     let whole : out′ ≡ text s ++ drop (0 + length (text s)) out = (rw t at w) ∙ sets-eq (text s) out 0 (omega (arith, text-long s)) in
-    let first : take n out′ ≡ text s = ap (take n) whole ∙ take-at (text s) (drop (0 + length (text s)) out) n (sym count) in
-    (
+    let first : take n out′ ≡ text s = ap (take n) whole ∙ take-at (text s) (drop (0 + length (text s)) out) n (sym count) in (
       count,
       first,
       (omega (arith, count, ap length whole, length-append (text s) (drop (0 + length (text s)) out)), count ∙ sym (ap length first)),
