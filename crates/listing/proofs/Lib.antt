@@ -3,3 +3,4 @@ pub mod Writes
 pub mod Lines
 pub mod Lengths
 pub mod Texts
+pub mod Heards

@@ -66,7 +66,8 @@ glyphs ds = map glyph ds
 abbrev pub lineGlyphs : List ℕ → List ℕ
 lineGlyphs bs = map (λ (b : ℕ). glyph (settled b)) bs
 
--- kind, and bits (line, then data) or count; nothing for a refused event, which an accepted store does not hold
+-- kind, and bits (line, then data) or count; nothing for a refused event, which an accepted store does not hold (`none-refused` of
+-- proofs/Heards)
 unfoldable pub kindText : Answer → List ℕ
 kindText (refused n) = []
 kindText reference = ref

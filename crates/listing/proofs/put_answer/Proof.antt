@@ -24,7 +24,7 @@ slice-aggregate-put-text c = search needs
 
 -- src/lib.rt:107:35
 put-text-requires : tie.Need-put-text-requires
-put-text-requires c κs = search needs
+put-text-requires c κs = omega arith
 
 -- src/lib.rt:108:23
 enum-known-o : tie.Need-enum-known-o
@@ -36,11 +36,11 @@ slice-aggregate-put-text-2 c = search needs
 
 -- src/lib.rt:109:17
 put-text-requires-2 : tie.Need-put-text-requires-2
-put-text-requires-2 c κs = search needs
+put-text-requires-2 c κs = omega arith
 
 -- src/lib.rt:110:17
 put-bits-requires : tie.Need-put-bits-requires
-put-bits-requires c κs = search needs
+put-bits-requires c κs = omega arith
 
 -- src/lib.rt:111:46
 slice-aggregate-put-text-3 : tie.Need-slice-aggregate-put-text-3
@@ -48,11 +48,11 @@ slice-aggregate-put-text-3 c = search needs
 
 -- src/lib.rt:111:17
 put-text-requires-3 : tie.Need-put-text-requires-3
-put-text-requires-3 c κs = search needs
+put-text-requires-3 c κs = omega arith
 
 -- src/lib.rt:112:13
 put-bits-requires-2 : tie.Need-put-bits-requires-2
-put-bits-requires-2 c κs = search needs
+put-bits-requires-2 c κs = omega arith
 
 -- src/lib.rt:114:22
 enum-known-o-2 : tie.Need-enum-known-o-2
@@ -64,11 +64,11 @@ slice-aggregate-put-text-4 c = search needs
 
 -- src/lib.rt:115:17
 put-text-requires-4 : tie.Need-put-text-requires-4
-put-text-requires-4 c κs = search needs
+put-text-requires-4 c κs = omega arith
 
 -- src/lib.rt:116:13
 put-decimal-requires : tie.Need-put-decimal-requires
-put-decimal-requires c κs = search needs
+put-decimal-requires c κs = omega arith
 
 -- src/lib.rt:101:1
 returns : tie.Need-returns

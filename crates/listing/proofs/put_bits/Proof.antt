@@ -38,7 +38,7 @@ glyph-at-requires c κs = omega arith
 
 -- src/lib.rt:94:9
 put8-requires : tie.Need-put8-requires Inv-loop μ-loop
-put8-requires c κs = search needs
+put8-requires c κs = tt
 
 -- src/lib.rt:95:9
 add-k : tie.Need-add-k Inv-loop μ-loop

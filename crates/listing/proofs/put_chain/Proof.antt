@@ -23,7 +23,7 @@ abbrev μ-loop : tie.MeasureT-loop
 
 -- src/lib.rt:204:9
 get16-requires : tie.Need-get16-requires Inv-loop μ-loop
-get16-requires c κs = search needs
+get16-requires c κs = tt
 
 -- src/lib.rt:205:5
 loop-holds : tie.Need-loop-holds Inv-loop μ-loop
@@ -56,7 +56,7 @@ mul-get16 c =
 
 -- src/lib.rt:208:9
 get16-requires-2 : tie.Need-get16-requires-2 Inv-loop μ-loop
-get16-requires-2 c κs = search needs
+get16-requires-2 c κs = tt
 
 -- src/lib.rt:205:5
 loop-less : tie.Need-loop-less Inv-loop μ-loop

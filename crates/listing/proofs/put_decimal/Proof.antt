@@ -22,7 +22,7 @@ abbrev μ-loop : tie.MeasureT-loop
 
 -- src/lib.rt:54:20
 digit-count-requires : tie.Need-digit-count-requires Inv-loop μ-loop
-digit-count-requires c κs = search needs
+digit-count-requires c κs = tt
 
 -- src/lib.rt:54:15
 add-end : tie.Need-add-end Inv-loop μ-loop
@@ -46,7 +46,7 @@ add-put8 c = omega arith
 
 -- src/lib.rt:59:9
 put8-requires : tie.Need-put8-requires Inv-loop μ-loop
-put8-requires c κs = search needs
+put8-requires c κs = tt
 
 -- src/lib.rt:57:5
 loop-less : tie.Need-loop-less Inv-loop μ-loop

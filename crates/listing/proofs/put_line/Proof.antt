@@ -13,11 +13,11 @@ use Rattle.listing.proofs.put_text.Reads as put-text-reads
 
 -- src/lib.rt:139:9
 width-of-requires : tie.Need-width-of-requires
-width-of-requires c κs = search needs
+width-of-requires c κs = tt
 
 -- src/lib.rt:140:9
 put-decimal-requires : tie.Need-put-decimal-requires
-put-decimal-requires c κs = search needs
+put-decimal-requires c κs = omega arith
 
 -- src/lib.rt:141:9
 put-answer-requires : tie.Need-put-answer-requires
@@ -31,7 +31,7 @@ slice-aggregate-put-text c = search needs
 
 -- src/lib.rt:142:5
 put-text-requires : tie.Need-put-text-requires
-put-text-requires c κs = search needs
+put-text-requires c κs = omega arith
 
 -- src/lib.rt:134:1
 same-length : tie.Need-same-length

@@ -39,7 +39,7 @@ add-byte c = omega arith
 
 -- src/lib.rt:163:34
 get-i16-requires : tie.Need-get-i16-requires Inv-loop μ-loop
-get-i16-requires c κs = search needs
+get-i16-requires c κs = tt
 
 -- src/lib.rt:163:63
 add-get-i16 : tie.Need-add-get-i16 Inv-loop μ-loop
@@ -47,11 +47,11 @@ add-get-i16 c = omega arith
 
 -- src/lib.rt:163:52
 get-i16-requires-2 : tie.Need-get-i16-requires-2 Inv-loop μ-loop
-get-i16-requires-2 c κs = search needs
+get-i16-requires-2 c κs = tt
 
 -- src/lib.rt:163:13
 receive-point-requires : tie.Need-receive-point-requires Inv-loop μ-loop
-receive-point-requires c κs = search needs
+receive-point-requires c κs = tt
 
 -- src/lib.rt:164:9
 put-line-requires : tie.Need-put-line-requires Inv-loop μ-loop
@@ -59,7 +59,7 @@ put-line-requires c κs = omega (arith, c .before .before .before .before .befor
 
 -- src/lib.rt:165:9
 state-after-requires : tie.Need-state-after-requires Inv-loop μ-loop
-state-after-requires c κs = search needs
+state-after-requires c κs = tt
 
 -- src/lib.rt:166:9
 add-k : tie.Need-add-k Inv-loop μ-loop

@@ -16,11 +16,11 @@ use Rattle.receiver.proofs.receive_gap.Reads as receive-gap-reads
 
 -- src/lib.rt:176:8
 get8-requires : tie.Need-get8-requires
-get8-requires c κs = search needs
+get8-requires c κs = tt
 
 -- src/lib.rt:177:30
 get8-requires-2 : tie.Need-get8-requires-2
-get8-requires-2 c κs = search needs
+get8-requires-2 c κs = tt
 
 -- src/lib.rt:177:9
 put-points-requires : tie.Need-put-points-requires
@@ -40,7 +40,7 @@ returns c =
 
 -- src/lib.rt:180:28
 get32-requires : tie.Need-get32-requires
-get32-requires c κs = search needs
+get32-requires c κs = tt
 
 -- src/lib.rt:180:28
 cast-receive-gap : tie.Need-cast-receive-gap
@@ -48,15 +48,15 @@ cast-receive-gap c = search needs
 
 -- src/lib.rt:180:9
 receive-gap-requires : tie.Need-receive-gap-requires
-receive-gap-requires c κs = search needs
+receive-gap-requires c κs = tt
 
 -- src/lib.rt:182:13
 put-line-requires : tie.Need-put-line-requires
-put-line-requires c κs = search needs
+put-line-requires c κs = omega arith
 
 -- src/lib.rt:183:16
 state-after-requires : tie.Need-state-after-requires
-state-after-requires c κs = search needs
+state-after-requires c κs = tt
 
 -- src/lib.rt:172:1
 same-length-2 : tie.Need-same-length-2

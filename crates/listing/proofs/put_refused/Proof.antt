@@ -1,3 +1,4 @@
+use native.Mathlib.Omega.{arith}
 use Rattle.listing.proofs.Writes.{refused-wrote}
 use borrow.Author.Needs.{needs}
 use Rattle.listing.proofs.put_refused.Statement.{statement}
@@ -13,11 +14,11 @@ slice-aggregate-put-text c = search needs
 
 -- src/lib.rt:256:9
 put-text-requires : tie.Need-put-text-requires
-put-text-requires c κs = search needs
+put-text-requires c κs = omega arith
 
 -- src/lib.rt:257:9
 put-decimal-requires : tie.Need-put-decimal-requires
-put-decimal-requires c κs = search needs
+put-decimal-requires c κs = omega arith
 
 -- src/lib.rt:258:24
 slice-aggregate-put-text-2 : tie.Need-slice-aggregate-put-text-2
@@ -25,7 +26,7 @@ slice-aggregate-put-text-2 c = search needs
 
 -- src/lib.rt:258:5
 put-text-requires-2 : tie.Need-put-text-requires-2
-put-text-requires-2 c κs = search needs
+put-text-requires-2 c κs = omega arith
 
 -- src/lib.rt:253:1
 same-length : tie.Need-same-length

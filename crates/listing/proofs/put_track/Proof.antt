@@ -12,7 +12,7 @@ use Rattle.octets.proofs.get8.Reads as get8-reads
 
 -- src/lib.rt:246:16
 get8-requires : tie.Need-get8-requires
-get8-requires c κs = search needs
+get8-requires c κs = tt
 
 -- src/lib.rt:246:16
 cast-mode : tie.Need-cast-mode
@@ -20,7 +20,7 @@ cast-mode c = search needs
 
 -- src/lib.rt:247:16
 get8-requires-2 : tie.Need-get8-requires-2
-get8-requires-2 c κs = search needs
+get8-requires-2 c κs = tt
 
 -- src/lib.rt:247:16
 cast-role : tie.Need-cast-role
@@ -28,11 +28,11 @@ cast-role c = search needs
 
 -- src/lib.rt:248:9
 put-first-requires : tie.Need-put-first-requires
-put-first-requires c κs = search needs
+put-first-requires c κs = tt
 
 -- src/lib.rt:249:27
 fresh-state-requires : tie.Need-fresh-state-requires
-fresh-state-requires c κs = search needs
+fresh-state-requires c κs = tt
 
 -- src/lib.rt:249:5
 put-chain-requires : tie.Need-put-chain-requires
