@@ -1,6 +1,7 @@
 /*
  * A receiver in mode 1 takes (4096, 0), (0, 4096), a gap of 3 and (-4096, 0), and prints a line for each event: the place
- * before it, its kind, and bits (line, then data, - unsettled) or count.
+ * before it, its kind, and bits (line, then data, - unsettled) or count. Then the same events go into a track store, and its
+ * listing is printed.
  */
 #include <stdio.h>
 
@@ -8,6 +9,8 @@
 
 static uint8_t state[KERAMBIU_STATE_BYTES];
 static uint8_t answer[KERAMBIU_ANSWER_BYTES];
+static uint8_t store[4 * KERAMBIU_RECORD_BYTES];
+static uint8_t text[KERAMBIU_LISTING_BYTES];
 
 static unsigned u32_at(const uint8_t *bytes)
 {
@@ -50,6 +53,25 @@ static void gap(uint32_t n)
     print_answer(place, kerambiu_receive_gap(state, sizeof state, n, answer, sizeof answer));
 }
 
+/* Puts the events into a store and prints its listing; 0, or the number of the first call that is refused. */
+static unsigned list_store(void)
+{
+    static const int16_t points[] = {4096, 0, 0, 4096};
+    size_t count[1];
+    unsigned refusal = kerambiu_make(store, sizeof store, 1, 0);
+    if (refusal == 0)
+        refusal = kerambiu_append_points(store, sizeof store, points, 4);
+    if (refusal == 0)
+        refusal = kerambiu_append_lost(store, sizeof store, 3);
+    if (refusal == 0)
+        refusal = kerambiu_append_point(store, sizeof store, -4096, 0);
+    if (refusal == 0)
+        refusal = kerambiu_list(store, sizeof store, text, sizeof text, count, 1);
+    if (refusal == 0)
+        fwrite(text, 1, count[0], stdout);
+    return refusal;
+}
+
 int main(void)
 {
     unsigned refusal = kerambiu_fresh(state, sizeof state, 1, 0);
@@ -62,5 +84,5 @@ int main(void)
     gap(3);
     point(-4096, 0);
     printf("total %u\n", u32_at(state + 12));
-    return 0;
+    return list_store();
 }
