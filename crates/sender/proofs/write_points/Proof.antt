@@ -1,12 +1,11 @@
 use Rattle.line.specs.declared.Point.{Point}
 use Rattle.line.proofs.Signed.{back}
 use Rattle.sender.specs.Sender.{grouped}
-use mathlib.Core.Path.{_≡_, refl, sym, _∙_, ap}
-use Prim.Native.Nat.{_*_}
+use mathlib.Core.Path.{_≡_, refl, _∙_, ap}
 use native.Mathlib.Omega.{arith}
 use native.Mathlib.Nat.{div-mul-le-self}
 use borrow.Author.Needs.{needs}
-use lib.ListN.{length, length-set}
+use lib.ListN.{length-set}
 use Rattle.line.proofs.ByMode.{width-range}
 use Rattle.sender.proofs.SendLaws.{Left, left-all, group-bits, group-there, left-less, sent-all, wrote-all}
 use Rattle.sender.proofs.write_points.Statement.{statement}
@@ -49,7 +48,7 @@ part-group-value-end : tie.Need-part-group-value-end Inv-loop μ-loop
 part-group-value-end c = group-there _ _ _ _ _ _ _ _ _ _ _ (c .before .loop .inv) (c .loop-test .taken)
 
 group-value-requires : tie.Need-group-value-requires Inv-loop μ-loop
-group-value-requires c κs = group-bits (c .before .before .before .width-of .result) _ _ (omega (arith, width-range (c .before .before .before .before .before .args .s .mode))) (c .before .before .before .before .before .pre .0)
+group-value-requires c κs = group-bits (c .before .before .before .width-of .result) _ _ (omega (arith, width-range (c .before .before .before .before .before .args .s .mode))) (omega (arith, width-range (c .before .before .before .before .before .args .s .mode))) (group-there _ _ _ _ _ _ _ _ _ _ _ (c .before .before .loop .inv) (c .before .loop-test .taken)) (c .before .before .before .before .before .pre .0)
 
 send-group-requires : tie.Need-send-group-requires Inv-loop μ-loop
 send-group-requires c κs = search needs
