@@ -13,3 +13,4 @@ pub mod ModeLaws
 pub mod Bench
 pub mod RefusalLaws
 pub mod DecideLaws
+pub mod ConstellationLaws

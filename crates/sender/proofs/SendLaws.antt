@@ -1,5 +1,5 @@
 -- Sending groups: one turn of the point writer's loop, and what a lent part becomes. Assumes nothing.
-use Prim.Native.Nat.{ℕ, zero, suc, _+_, _*_, _-_, _/_, _<_, _≤_}
+use Prim.Native.Nat.{ℕ, zero, suc, _+_, _*_, _-_, _/_, _%_, _<_, _≤_}
 use mathlib.Core.Path.{_≡_, refl, sym, _∙_, ap, ap₂}
 use mathlib.Core.Bool.{Bool}
 use mathlib.Core.List.{List, [], _∷_, _++_, append-nil}
@@ -9,13 +9,16 @@ use native.Mathlib.Omega.{arith}
 use borrow.Rule.Slice.PartMut.{putMid, post-is}
 use borrow.Rule.Slice.PartAt.{part-to-end}
 use lib.Dec.{T, ltb, ltb→lt}
-use lib.IntN.{ℤ}
+use lib.IntN.{ℤ, pos}
 use lib.ListN.{length, getD, take, drop, set, length-set, length-take, length-drop}
 use lib.Seq.{drop-drop, drop-length, sets}
 use Rattle.line.specs.Table.{every}
 use Rattle.line.specs.Mode.{width, face}
 use Rattle.line.specs.Code.{coded}
-use Rattle.line.specs.Point.{sentPoint}
+use Rattle.line.specs.declared.Point.{Point}
+use Rattle.line.specs.Point.{at, sentPoint}
+use Rattle.line.specs.Constellation.{sentPoints}
+use Rattle.line.proofs.ConstellationLaws.{table-point}
 use Rattle.line.proofs.TableLaws.{and-left, and-right, and-intro}
 use Rattle.scrambler.specs.declared.Scrambled.{Scrambled}
 use Rattle.scrambler.specs.Bits.{isBit, bits, value}
@@ -108,6 +111,10 @@ less (suc n) w h = rw sub-one (omega (arith, suc-mul n w))
 groups-step : (w at n : ℕ) (ds : List ℕ) → 0 < n → groups w n (drop at ds) ≡ take (at + w - at) (drop at ds) ∷ groups w (n - 1) (drop (at + w) ds)
 groups-step w at zero ds h = absurd (lt-irrefl 0 h)
 groups-step w at (suc n) ds h = simp (add-sub-cancel-left, ← drop-drop, sub-one)
+
+-- the point that the writer looks up
+pub looked-up : (m s : ℕ) (ps : List Point) → ps ≡ sentPoints m → getD ps (s % 16) (at (pos 0) (pos 0)) ≡ sentPoint m s
+looked-up m s ps e = ap (λ (qs : List Point). getD qs (s % 16) (at (pos 0) (pos 0))) e ∙ table-point m s
 
 -- the numbers of a point, and the rest
 pub point-step : (m s : ℕ) (ss : List ℕ) (out : List ℤ) (k : ℕ) (re im : ℤ) → re ≡ sentPoint m s .re → im ≡ sentPoint m s .im

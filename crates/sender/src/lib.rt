@@ -149,6 +149,7 @@ fn write_points(s: Sender, input: &[u8], out: &mut [i16]) -> Sender
 {
     let mode = s.mode;
     let w = line::width_of(mode) as usize;
+    let points = line::constellation(mode);
     let mut t = s;
     let mut at = 0;
     let mut k = 0;
@@ -156,7 +157,8 @@ fn write_points(s: Sender, input: &[u8], out: &mut [i16]) -> Sender
     while left > 0 {
         let e = at + w;
         t = send_group(t, group_value(&input[at..e]));
-        let p = line::sent_point(mode, t.reference);
+        let state = (t.reference as usize) % 16;
+        let p = points[state];
         let re = p.re;
         let im = p.im;
         out[k] = re;
