@@ -125,8 +125,8 @@ fn group_value(group: &[u8]) -> u8
     2 * three + group[3]
 }
 
-// The sender after a group. It does what `training::code_group` does: with two callers that one would stay a call, which took
-// longer than all else that is done for a point.
+// The sender after a group. It does what `training::code_group` does: with two callers that one would stay a call, which in
+// modes 1, 3 and 4 took longer than all else that is done for a point.
 fn send_group(s: Sender, plain: u8) -> Sender
     ensures { λ r. ⌜ r ≡ afterGroup s (bits (width (s .mode)) plain) ⌝ }
 {
