@@ -14,3 +14,4 @@ pub mod Bench
 pub mod RefusalLaws
 pub mod DecideLaws
 pub mod SectorLaws
+pub mod ConstellationLaws

@@ -6,3 +6,4 @@ pub mod Code
 pub mod Sizes
 pub mod Bench
 pub mod Refusal
+pub mod Constellation

@@ -9,6 +9,7 @@ ghost use lib.Signed.{nonNeg};
 ghost use Rattle.line.specs.Table.{entry, firstRow};
 ghost use Rattle.line.specs.Mode.{isMode, isRole, width, regLen, isState, face, quadrant};
 ghost use Rattle.line.specs.Point.{at, inRange, sentPoint};
+ghost use Rattle.line.specs.Constellation.{sentPoints};
 ghost use Rattle.line.specs.Decide.{decide as decideSpec};
 ghost use Rattle.line.specs.Code.{changes4, changes8, changes16, eighths, coded, turnRow, group};
 ghost use Rattle.line.specs.Sizes.{quarterOf, arcOf, Bounded, state1, decided2, state3, outerSize, state4, decidedArc};
@@ -447,4 +448,33 @@ pub fn group_of(mode: u8, reference: u8, s: u8) -> u8
         return row;
     }
     4 * row + s % 4
+}
+
+// The points of the states 0 to 15. A caller binds them once before a loop: a constant is built anew at each use.
+pub fn constellation(mode: u8) -> [Point; 16]
+    ensures { λ r. ⌜ r ≡ sentPoints mode ⌝ }
+{
+    if mode <= 2 {
+        let t = SENT27;
+        [
+            t[0],
+            t[1],
+            t[2],
+            t[3],
+            t[4],
+            t[5],
+            t[6],
+            t[7],
+            t[0],
+            t[1],
+            t[2],
+            t[3],
+            t[4],
+            t[5],
+            t[6],
+            t[7],
+        ]
+    } else {
+        SENT32
+    }
 }

@@ -1,8 +1,8 @@
 -- What the functions that refuse compute, and what no refusal says. Assumes nothing.
 use Prim.Native.Nat.{ℕ, zero, suc, _+_, _*_, _-_, _/_, _%_, _<_, _≤_}
-use mathlib.Core.Path.{_≡_, refl, sym, _∙_, ap, ap₂, subst}
-use mathlib.Core.Bool.{Bool, true, false, not, _&&_}
-use mathlib.Core.List.{List, [], _∷_}
+use mathlib.Core.Path.{_≡_, refl, sym, _∙_, ap, ap₂}
+use mathlib.Core.Bool.{Bool, true, false, not, _&&_, and-assoc, and-true}
+use mathlib.Core.List.{List}
 use native.Mathlib.Numerals.{add-one}
 use native.Mathlib.Omega.{arith}
 use native.Mathlib.Decide.{decLe}
@@ -13,8 +13,6 @@ use lib.Seq.{drop-cons}
 use Rattle.line.specs.Table.{every}
 use Rattle.line.specs.Mode.{isMode, isRole, isState, width, regLen}
 use Rattle.line.specs.Refusal.{need, orNext, accepted}
-use Rattle.line.proofs.Tests.{tests}
-use Rattle.line.proofs.TableLaws.{and-left, and-right, and-intro, is-true}
 use Rattle.line.proofs.RefusalLaws.{need-met, need-rest, next-first, next-rest}
 use Rattle.scrambler.specs.Bits.{isBit}
 use Rattle.scrambler.specs.Register.{registerOk}
@@ -111,23 +109,26 @@ module _ (m : ℕ) (ds : List ℕ) (len off : ℕ) (r : Bool) (e : r ≡ every i
         (room-passes (length ds / width m) (length ds / w) len off 7 q (ap (λ (i : ℕ). length ds / i) ew) h k
         ∙ ap (λ (t : Bool). need t 6 (need (hasRoom (length ds / width m) len off) 7 0)) (sym (eq-eqb (length ds % width m) 0 (ap (λ (i : ℕ). length ds % i) (sym ew) ∙ g))))
 
--- whether each byte is a bit, from the i-th on
-module _ (xs : List ℕ) (i : ℕ) where
-  bits-step : i < length xs → every isBit (drop i xs) ≡ (isBit (getD xs i 0) && every isBit (drop (i + 1) xs))
-  bits-step h = rw (add-one, drop-cons xs i 0)
+-- the code's test of a byte
+byte-test : (x : ℕ) → leb x 1 ≡ isBit x
+unfolding isBit
+byte-test x = go (decLe x 1)
+  where
+    go : Dec (x ≤ 1) → leb x 1 ≡ ltb x 2
+    go (yes k) = le-leb x 1 k ∙ sym (lt-ltb x 2 (omega arith))
+    go (no k) = lt-leb x 1 (omega (arith, k)) ∙ sym (le-ltb x 2 (omega (arith, k)))
 
-  pub bits-fail : (b : Bool) → every isBit (drop i xs) ≡ b → i < length xs → 1 < getD xs i 0 → false ≡ b
-  unfolding isBit
-  bits-fail b e h k =
-      sym (sym e ∙ bits-step h ∙ ap (λ (t : Bool). t && every isBit (drop (i + 1) xs)) (le-ltb (getD xs i 0) 2 (omega arith)))
+-- whether each byte is a bit: those before the i-th, and those from it on
+module _ (xs : List ℕ) (i : ℕ) (a b : Bool) (e : (a && every isBit (drop i xs)) ≡ b) where
+  pub bits-go : i < length xs → ((a && leb (getD xs i 0) 1) && every isBit (drop (i + 1) xs)) ≡ b
+  bits-go h =
+      let rest : List ℕ = drop (i + 1) xs in
+      let step : every isBit (drop i xs) ≡ (isBit (getD xs i 0) && every isBit rest) = rw (add-one, drop-cons xs i 0) in
+      and-assoc a (leb (getD xs i 0) 1) (every isBit rest) ∙ ap (λ (t : Bool). a && (t && every isBit rest)) (byte-test (getD xs i 0))
+      ∙ sym (ap (λ (t : Bool). a && t) step) ∙ e
 
-  pub bits-go : (b : Bool) → every isBit (drop i xs) ≡ b → i < length xs → getD xs i 0 ≤ 1 → every isBit (drop (i + 1) xs) ≡ b
-  unfolding isBit
-  bits-go b e h k =
-      sym (ap (λ (t : Bool). t && every isBit (drop (i + 1) xs)) (lt-ltb (getD xs i 0) 2 (omega arith))) ∙ sym (bits-step h) ∙ e
-
-  pub bits-end : (b : Bool) → every isBit (drop i xs) ≡ b → length xs ≤ i → true ≡ b
-  bits-end b e h = sym (ap (every isBit) (drop-of-length-le xs h)) ∙ e
+  pub bits-end : length xs ≤ i → a ≡ b
+  bits-end h = sym (and-true a) ∙ sym (ap (λ (l : List ℕ). a && every isBit l) (drop-of-length-le xs h)) ∙ e
 
 -- WHAT NO REFUSAL SAYS
 

@@ -1,25 +1,31 @@
 -- Sending groups: one turn of the point writer's loop, and what a lent part becomes. Assumes nothing.
-use Prim.Native.Nat.{ℕ, zero, suc, _+_, _*_, _-_, _^_, _/_, _%_, _<_, _≤_}
-use mathlib.Core.Path.{_≡_, refl, sym, _∙_, ap, ap₂, subst}
-use mathlib.Core.Bool.{Bool, true, false, _&&_}
+use Prim.Native.Nat.{ℕ, zero, suc, _+_, _*_, _-_, _/_, _%_, _<_, _≤_}
+use mathlib.Core.Path.{_≡_, refl, sym, _∙_, ap, ap₂}
+use mathlib.Core.Bool.{Bool}
 use mathlib.Core.List.{List, [], _∷_, _++_, append-nil}
-use native.Mathlib.Numerals.{add-one, sub-one, towards-suc}
-use native.Mathlib.Nat.{suc-mul, lt-irrefl, not-suc-le-zero, le-of-suc-le-suc, add-sub-cancel-left, two-pow-succ, pow-le-pow-right, zero-mul, zero-add}
+use native.Mathlib.Numerals.{sub-one, towards-suc}
+use native.Mathlib.Nat.{suc-mul, lt-irrefl, not-suc-le-zero, le-of-suc-le-suc, add-sub-cancel-left}
 use native.Mathlib.Omega.{arith}
 use borrow.Rule.Slice.PartMut.{putMid, post-is}
 use borrow.Rule.Slice.PartAt.{part-to-end}
-use lib.Dec.{T, ltb, ltb→lt, lit<}
-use lib.IntN.{ℤ}
-use lib.ListN.{length, getD, take, drop, set, length-set, length-take, length-drop, drop-of-length-le}
-use lib.Seq.{drop-cons, drop-drop, drop-length, sets}
+use lib.Dec.{T, ltb, ltb→lt}
+use lib.IntN.{ℤ, pos}
+use lib.ListN.{length, getD, take, drop, set, length-set, length-take, length-drop}
+use lib.Seq.{drop-drop, drop-length, sets}
 use Rattle.line.specs.Table.{every}
-use Rattle.line.specs.Mode.{width}
-use Rattle.line.specs.Point.{sentPoint}
+use Rattle.line.specs.Mode.{width, face}
+use Rattle.line.specs.Code.{coded}
+use Rattle.line.specs.declared.Point.{Point}
+use Rattle.line.specs.Point.{at, sentPoint}
+use Rattle.line.specs.Constellation.{sentPoints}
+use Rattle.line.proofs.ConstellationLaws.{table-point}
 use Rattle.line.proofs.TableLaws.{and-left, and-right, and-intro}
+use Rattle.scrambler.specs.declared.Scrambled.{Scrambled}
 use Rattle.scrambler.specs.Bits.{isBit, bits, value}
+use Rattle.scrambler.specs.Group.{scrambled}
 use Rattle.scrambler.proofs.BitLaws.{bits-value}
-use Rattle.training.specs.declared.Coder.{Coder}
-use Rattle.training.specs.Coder.{coder, coding, numbers}
+use Rattle.training.specs.Coder.{numbers}
+use Rattle.training.proofs.CoderLaws.{code-law}
 use Rattle.sender.specs.declared.Sender.{Sender}
 use Rattle.sender.specs.Sender.{coderOf, senderOf, groups, grouped, afterGroup, afterGroups, sentStates, sendRefusal, sendAnswer, sendNumbers}
 use Rattle.sender.specs.declared.Sent.the-variants.{Refused, Ready}
@@ -38,52 +44,42 @@ every-drop f zero xs t = t
 every-drop f (suc n) [] t = tt
 every-drop f (suc n) (x ∷ xs) t = every-drop f n xs (and-right (f x) (every f xs) t)
 
-pub bit-at : (xs : List ℕ) (i : ℕ) → T (every isBit xs) → i < length xs → getD xs i 0 < 2
+-- past the end too, where 0 is read
+pub bit-at : (xs : List ℕ) (i : ℕ) → T (every isBit xs) → getD xs i 0 < 2
 unfolding isBit
-bit-at [] i t h = absurd (not-suc-le-zero h)
-bit-at (x ∷ xs) zero t h = ltb→lt x 2 (and-left (ltb x 2) (every isBit xs) t)
-bit-at (x ∷ xs) (suc i) t h = bit-at xs i (and-right (ltb x 2) (every isBit xs) t) (le-of-suc-le-suc h)
+bit-at [] i t = omega arith
+bit-at (x ∷ xs) zero t = ltb→lt x 2 (and-left (ltb x 2) (every isBit xs) t)
+bit-at (x ∷ xs) (suc i) t = bit-at xs i (and-right (ltb x 2) (every isBit xs) t)
 
--- a group's number, bit by bit
-abbrev pub horner : ℕ → List ℕ → ℕ
-horner g [] = g
-horner g (b ∷ bs) = horner (2 * g + b) bs
+-- the number of a group of two, three or four bits
+pub value-2 : (xs : List ℕ) → length xs ≡ 2 → 2 * getD xs 0 0 + getD xs 1 0 ≡ value xs
+value-2 [] e = absurd (omega arith)
+value-2 (a ∷ []) e = absurd (omega arith)
+value-2 (a ∷ b ∷ []) e = omega arith
+value-2 (a ∷ b ∷ c ∷ xs) e = absurd (omega arith)
 
-horner-value : (g : ℕ) (bs : List ℕ) → horner g bs ≡ g * 2 ^ length bs + value bs
-horner-value g [] = omega arith
-horner-value g (b ∷ bs) =
-    horner-value (2 * g + b) bs
-    ∙ (let p : ℕ = 2 ^ length bs in
-    let e : (2 * g + b) * p + value bs ≡ g * 2 ^ suc (length bs) + (b * p + value bs) = omega (arith, ap (λ (n : ℕ). g * n) (two-pow-succ (length bs))) in e)
+pub value-3 : (xs : List ℕ) → length xs ≡ 3 → 2 * (2 * getD xs 0 0 + getD xs 1 0) + getD xs 2 0 ≡ value xs
+value-3 [] e = absurd (omega arith)
+value-3 (a ∷ []) e = absurd (omega arith)
+value-3 (a ∷ b ∷ []) e = absurd (omega arith)
+value-3 (a ∷ b ∷ c ∷ []) e = omega arith
+value-3 (a ∷ b ∷ c ∷ d ∷ xs) e = absurd (omega arith)
 
-pub horner-all : (bs : List ℕ) → horner 0 bs ≡ value bs
-horner-all bs = horner-value 0 bs ∙ ap (λ (n : ℕ). n + value bs) (zero-mul (2 ^ length bs)) ∙ zero-add (value bs)
-
-pub horner-step : (g : ℕ) (xs : List ℕ) (i : ℕ) → i < length xs → horner g (drop i xs) ≡ horner (2 * g + getD xs i 0) (drop (i + 1) xs)
-horner-step g xs i h = rw (add-one, drop-cons xs i 0)
-
-pub horner-end : (g : ℕ) (xs : List ℕ) (i : ℕ) → length xs ≤ i → horner g (drop i xs) ≡ g
-horner-end g xs i h = rw (drop-of-length-le xs h)
-
--- so far it is below 2^i, and after the next bit it still fits
-pub record Fits8 (xs : List ℕ) (i g : ℕ) : Type 0 where
-  pub doubled : 2 * g < 256
-  pub next : 2 * g + getD xs i 0 < 256
-  pub below : 2 * g + getD xs i 0 < 2 ^ (i + 1)
-
-pub horner-fits : (xs : List ℕ) (i g : ℕ) → length xs ≤ 4 → T (every isBit xs) → i < length xs → g < 2 ^ i → Fits8 xs i g
-horner-fits xs i g l t h k =
-    let l₄ : i ≤ 4 = omega arith in
-    let p : 2 ^ i ≤ 2 ^ 4 = pow-le-pow-right (lit< tt) l₄ in
-    let b : getD xs i 0 < 2 = bit-at xs i t h in
-    record { doubled = omega arith; next = omega arith; below = rw add-one (omega (arith, two-pow-succ i)) }
+pub value-4 : (xs : List ℕ) → length xs ≡ 4 → 2 * (2 * (2 * getD xs 0 0 + getD xs 1 0) + getD xs 2 0) + getD xs 3 0 ≡ value xs
+value-4 [] e = absurd (omega arith)
+value-4 (a ∷ []) e = absurd (omega arith)
+value-4 (a ∷ b ∷ []) e = absurd (omega arith)
+value-4 (a ∷ b ∷ c ∷ []) e = absurd (omega arith)
+value-4 (a ∷ b ∷ c ∷ d ∷ []) e = omega arith
+value-4 (a ∷ b ∷ c ∷ d ∷ x ∷ xs) e = absurd (omega arith)
 
 -- A GROUP
 
-pub group-law : (s : Sender) (d : Coder) (g : List ℕ) → d ≡ coding (s .mode) (s .role) (coderOf s) g
-    → _≡_ {A = Sender} (record { mode = s .mode; role = s .role; reference = d .reference; line = d .line }) (afterGroup s g)
+pub group-law : (s : Sender) (plain r : ℕ) (d : Scrambled) → d ≡ scrambled (s .mode) (s .role) (s .line) plain
+    → r ≡ coded (s .mode) (face (s .mode) (s .reference)) (d .line)
+    → _≡_ {A = Sender} (record { mode = s .mode; role = s .role; reference = r; line = d .next }) (afterGroup s (bits (width (s .mode)) plain))
 unfolding afterGroup
-group-law s d g e = ap (senderOf (s .mode) (s .role)) e
+group-law s plain r d e f = ap (senderOf (s .mode) (s .role)) (code-law (s .mode) (s .role) plain r (coderOf s) d e f)
 
 pub group-mode : (s : Sender) (g : List ℕ) → afterGroup s g .mode ≡ s .mode
 unfolding afterGroup
@@ -100,10 +96,12 @@ whole-bits w at n ds t h e =
     let l : w ≡ length g = sym (rw (length-take, length-drop) (omega arith)) in
     ap₂ bits l e ∙ bits-value g (every-take isBit (at + w - at) (drop at ds) (every-drop isBit at ds t))
 
--- a group of a writer is short, and its bytes are bits
-pub group-bits : (w at : ℕ) (ds : List ℕ) → w ≤ 4 → T (every isBit ds) → (length (take (at + w - at) (drop at ds)) ≤ 4) × T (every isBit (take (at + w - at) (drop at ds)))
-group-bits w at ds h t =
-    (rw length-take (omega arith), every-take isBit (at + w - at) (drop at ds) (every-drop isBit at ds t))
+-- a group of a writer has two to four bytes, and they are bits
+pub group-bits : (w at : ℕ) (ds : List ℕ) → 2 ≤ w → w ≤ 4 → at + w ≤ length ds → T (every isBit ds)
+    → (2 ≤ length (take (at + w - at) (drop at ds))) × (length (take (at + w - at) (drop at ds)) ≤ 4) × T (every isBit (take (at + w - at) (drop at ds)))
+group-bits w at ds g h k t =
+    let l : length (take (at + w - at) (drop at ds)) ≡ w = rw (length-take, length-drop) (omega arith) in
+    (omega arith, omega arith, every-take isBit (at + w - at) (drop at ds) (every-drop isBit at ds t))
 
 -- one group less to send
 pub less : (n w : ℕ) → 0 < n → n * w ≡ w + (n - 1) * w
@@ -113,6 +111,10 @@ less (suc n) w h = rw sub-one (omega (arith, suc-mul n w))
 groups-step : (w at n : ℕ) (ds : List ℕ) → 0 < n → groups w n (drop at ds) ≡ take (at + w - at) (drop at ds) ∷ groups w (n - 1) (drop (at + w) ds)
 groups-step w at zero ds h = absurd (lt-irrefl 0 h)
 groups-step w at (suc n) ds h = simp (add-sub-cancel-left, ← drop-drop, sub-one)
+
+-- the point that the writer looks up
+pub looked-up : (m s : ℕ) (ps : List Point) → ps ≡ sentPoints m → getD ps (s % 16) (at (pos 0) (pos 0)) ≡ sentPoint m s
+looked-up m s ps e = ap (λ (qs : List Point). getD qs (s % 16) (at (pos 0) (pos 0))) e ∙ table-point m s
 
 -- the numbers of a point, and the rest
 pub point-step : (m s : ℕ) (ss : List ℕ) (out : List ℤ) (k : ℕ) (re im : ℤ) → re ≡ sentPoint m s .re → im ≡ sentPoint m s .im

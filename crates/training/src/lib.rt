@@ -24,7 +24,7 @@ pub fn middle_changes() -> [u8; 1074]
 }
 
 // A point's data bits, as a number, sent after a reference and a register.
-pub fn code_group(mode: u8, role: u8, c: Coder, plain: u8) -> Coder
+fn code_group(mode: u8, role: u8, c: Coder, plain: u8) -> Coder
     ensures { λ r. ⌜ r ≡ coding mode role c (bits (width mode) plain) ⌝ }
 {
     let register = c.line;

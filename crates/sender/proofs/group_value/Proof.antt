@@ -1,59 +1,64 @@
-use Rattle.sender.proofs.SendLaws.{horner-fits}
-use Prim.Native.Nat.{_≤_, _<_, _-_, _^_}
-use mathlib.Core.Path.{_≡_, refl, _∙_, sym}
 use native.Mathlib.Omega.{arith}
-use native.Mathlib.Nat.{pow-le-pow-right, two-pow-succ}
-use native.Mathlib.Numerals.{add-one}
+use Rattle.sender.proofs.SendLaws.{bit-at, value-2, value-3, value-4}
 use borrow.Author.Needs.{needs}
-use lib.Dec.{lit<}
-use lib.ListN.{length, drop}
-use Rattle.sender.proofs.SendLaws.{bit-at, horner, horner-all, horner-step, horner-end}
 use Rattle.sender.proofs.group_value.Statement.{statement}
 use Rattle.sender.proofs.group_value.Tie as tie
 use Rattle.sender.proofs.group_value.Reads as reads
 use Rattle.sender.proofs.group_value.Lts as lts
 
-abbrev Inv-loop : tie.InvT-loop
-Inv-loop group g₀ i₀ g i = (i ≤ length group) × ((g < 2 ^ i) × (horner g (drop i group) ≡ horner 0 group))
+shared-slice-read-two : tie.Need-shared-slice-read-two
+shared-slice-read-two c = search needs
 
-abbrev μ-loop : tie.MeasureT-loop
-μ-loop group g₀ i₀ g i = length group - i
+mul-two : tie.Need-mul-two
+mul-two c = omega (arith, bit-at (c .before .args .group .now) 0 (c .before .pre .2))
 
-loop-holds : tie.Need-loop-holds Inv-loop μ-loop
-loop-holds c = (search needs, (omega arith, refl))
+shared-slice-read-two-2 : tie.Need-shared-slice-read-two-2
+shared-slice-read-two-2 c = search needs
 
-mul-g : tie.Need-mul-g Inv-loop μ-loop
-mul-g c = omega (arith, horner-fits (c .before .before .args .group .now) (c .before .loop .i) (c .before .loop .g) (c .before .before .pre .0) (c .before .before .pre .1) (c .loop-test .taken) (c .before .loop .inv .1 .0) .doubled)
+add-two : tie.Need-add-two
+add-two c = omega (arith, bit-at (c .before .before .args .group .now) 0 (c .before .before .pre .2), bit-at (c .before .before .args .group .now) 1 (c .before .before .pre .2))
 
-shared-slice-read-g : tie.Need-shared-slice-read-g Inv-loop μ-loop
-shared-slice-read-g c = search needs
+returns : tie.Need-returns
+returns c = search value-2
 
-add-g : tie.Need-add-g Inv-loop μ-loop
-add-g c = omega (arith, horner-fits (c .before .before .before .args .group .now) (c .before .before .loop .i) (c .before .before .loop .g) (c .before .before .before .pre .0) (c .before .before .before .pre .1) (c .before .loop-test .taken) (c .before .before .loop .inv .1 .0) .next)
+mul-three : tie.Need-mul-three
+mul-three c = omega (arith, bit-at (c .before .before .before .args .group .now) 0 (c .before .before .before .pre .2), bit-at (c .before .before .before .args .group .now) 1 (c .before .before .before .pre .2))
 
-add-i : tie.Need-add-i Inv-loop μ-loop
-add-i c = search needs
+shared-slice-read-three : tie.Need-shared-slice-read-three
+shared-slice-read-three c = search needs
 
-loop-less : tie.Need-loop-less Inv-loop μ-loop
-loop-less c = search needs
+add-three : tie.Need-add-three
+add-three c = omega (arith, bit-at (c .before .before .before .before .args .group .now) 0 (c .before .before .before .before .pre .2), bit-at (c .before .before .before .before .args .group .now) 1 (c .before .before .before .before .pre .2), bit-at (c .before .before .before .before .args .group .now) 2 (c .before .before .before .before .pre .2))
 
-loop-again : tie.Need-loop-again Inv-loop μ-loop
-loop-again c = (search needs, (horner-fits (c .before .before .before .args .group .now) (c .before .before .loop .i) (c .before .before .loop .g) (c .before .before .before .pre .0) (c .before .before .before .pre .1) (c .before .loop-test .taken) (c .before .before .loop .inv .1 .0) .below, sym (horner-step (c .before .before .loop .g) (c .before .before .before .args .group .now) (c .before .before .loop .i) (c .before .loop-test .taken)) ∙ c .before .before .loop .inv .1 .1))
+returns-2 : tie.Need-returns-2
+returns-2 c = search value-3
 
-returns : tie.Need-returns Inv-loop μ-loop
-returns c = sym (horner-end (c .before .loop .g) (c .before .before .args .group .now) (c .before .loop .i) (c .loop-test .left)) ∙ c .before .loop .inv .1 .1 ∙ horner-all (c .before .before .args .group .now)
+mul-result : tie.Need-mul-result
+mul-result c = omega (arith, bit-at (c .before .before .before .before .before .args .group .now) 0 (c .before .before .before .before .before .pre .2), bit-at (c .before .before .before .before .before .args .group .now) 1 (c .before .before .before .before .before .pre .2), bit-at (c .before .before .before .before .before .args .group .now) 2 (c .before .before .before .before .before .pre .2))
+
+shared-slice-read-result : tie.Need-shared-slice-read-result
+shared-slice-read-result c = search needs
+
+add-result : tie.Need-add-result
+add-result c = omega (arith, bit-at (c .before .before .before .before .before .before .args .group .now) 0 (c .before .before .before .before .before .before .pre .2), bit-at (c .before .before .before .before .before .before .args .group .now) 1 (c .before .before .before .before .before .before .pre .2), bit-at (c .before .before .before .before .before .before .args .group .now) 2 (c .before .before .before .before .before .before .pre .2), bit-at (c .before .before .before .before .before .before .args .group .now) 3 (c .before .before .before .before .before .before .pre .2))
+
+returns-3 : tie.Need-returns-3
+returns-3 c = value-4 (c .before .before .before .before .before .before .args .group .now) (omega arith)
 
 pub group-value-spec : {M : Type 1} → statement M
 group-value-spec =
     tie.close
     (tie.spec
-    Inv-loop
-    μ-loop
-    loop-holds
-    mul-g
-    shared-slice-read-g
-    add-g
-    add-i
-    loop-less
-    loop-again
-    returns)
+    shared-slice-read-two
+    mul-two
+    shared-slice-read-two-2
+    add-two
+    returns
+    mul-three
+    shared-slice-read-three
+    add-three
+    returns-2
+    mul-result
+    shared-slice-read-result
+    add-result
+    returns-3)

@@ -1,28 +1,27 @@
 use Rattle.line.specs.declared.Point.{Point}
 use Rattle.line.proofs.Signed.{back}
 use Rattle.sender.specs.Sender.{grouped}
-use mathlib.Core.Path.{_≡_, refl, sym, _∙_, ap}
-use Prim.Native.Nat.{_*_}
+use mathlib.Core.Path.{_≡_, refl, _∙_, ap}
 use native.Mathlib.Omega.{arith}
 use native.Mathlib.Nat.{div-mul-le-self}
 use borrow.Author.Needs.{needs}
-use lib.ListN.{length, length-set}
+use lib.ListN.{length-set}
 use Rattle.line.proofs.ByMode.{width-range}
-use Rattle.sender.proofs.SendLaws.{Left, left-all, group-bits, group-there, left-less, sent-all, wrote-all}
+use Rattle.sender.proofs.SendLaws.{Left, left-all, group-bits, group-there, left-less, looked-up, sent-all, wrote-all}
 use Rattle.sender.proofs.write_points.Statement.{statement}
 use Rattle.sender.proofs.write_points.Tie as tie
 use Rattle.sender.proofs.write_points.Reads as reads
 use Rattle.sender.proofs.write_points.Lts as lts
-use Rattle.line.proofs.sent_point.Reads as sent-point-reads
+use Rattle.line.proofs.constellation.Reads as constellation-reads
 use Rattle.line.proofs.width_of.Reads as width-of-reads
 use Rattle.sender.proofs.group_value.Reads as group-value-reads
 use Rattle.sender.proofs.send_group.Reads as send-group-reads
 
 abbrev Inv-loop : tie.InvT-loop
-Inv-loop input out₀ mode w t₀ at₀ k₀ left₀ out t at k left = Left mode w input t₀ left₀ out₀ t out at k left
+Inv-loop input out₀ mode w points t₀ at₀ k₀ left₀ out t at k left = Left mode w input t₀ left₀ out₀ t out at k left
 
 abbrev μ-loop : tie.MeasureT-loop
-μ-loop input out₀ mode w t₀ at₀ k₀ left₀ out t at k left = left
+μ-loop input out₀ mode w points t₀ at₀ k₀ left₀ out t at k left = left
 
 width-of-requires : tie.Need-width-of-requires Inv-loop μ-loop
 width-of-requires c κs = search needs
@@ -30,11 +29,14 @@ width-of-requires c κs = search needs
 cast-w : tie.Need-cast-w Inv-loop μ-loop
 cast-w c = search needs
 
+constellation-requires : tie.Need-constellation-requires Inv-loop μ-loop
+constellation-requires c κs = search needs
+
 div-left : tie.Need-div-left Inv-loop μ-loop
-div-left c = omega (arith, width-range (c .before .before .args .s .mode))
+div-left c = omega (arith, width-range (c .before .before .before .args .s .mode))
 
 loop-holds : tie.Need-loop-holds Inv-loop μ-loop
-loop-holds c = left-all _ _ _ _ _ _ refl (div-mul-le-self _ _) (rw (c .width-of .ensures) (c .before .before .pre .1))
+loop-holds c = left-all _ _ _ _ _ _ refl (div-mul-le-self _ _) (rw (c .before .width-of .ensures) (c .before .before .before .pre .1))
 
 add-e : tie.Need-add-e Inv-loop μ-loop
 add-e c = omega (arith, group-there _ _ _ _ _ _ _ _ _ _ _ (c .before .loop .inv) (c .loop-test .taken))
@@ -49,13 +51,19 @@ part-group-value-end : tie.Need-part-group-value-end Inv-loop μ-loop
 part-group-value-end c = group-there _ _ _ _ _ _ _ _ _ _ _ (c .before .loop .inv) (c .loop-test .taken)
 
 group-value-requires : tie.Need-group-value-requires Inv-loop μ-loop
-group-value-requires c κs = group-bits (c .before .before .before .width-of .result) _ _ (omega (arith, width-range (c .before .before .before .before .before .args .s .mode))) (c .before .before .before .before .before .pre .0)
+group-value-requires c κs = group-bits (c .before .before .before .before .width-of .result) _ _ (omega (arith, width-range (c .before .before .before .before .before .before .args .s .mode))) (omega (arith, width-range (c .before .before .before .before .before .before .args .s .mode))) (group-there _ _ _ _ _ _ _ _ _ _ _ (c .before .before .loop .inv) (c .before .loop-test .taken)) (c .before .before .before .before .before .before .pre .0)
 
 send-group-requires : tie.Need-send-group-requires Inv-loop μ-loop
 send-group-requires c κs = search needs
 
-sent-point-requires : tie.Need-sent-point-requires Inv-loop μ-loop
-sent-point-requires c κs = search needs
+cast-state : tie.Need-cast-state Inv-loop μ-loop
+cast-state c = search needs
+
+mul-p : tie.Need-mul-p Inv-loop μ-loop
+mul-p c = search needs
+
+array-copy-out-p : tie.Need-array-copy-out-p Inv-loop μ-loop
+array-copy-out-p c = search needs
 
 mul-re : tie.Need-mul-re Inv-loop μ-loop
 mul-re c = omega arith
@@ -82,14 +90,14 @@ loop-less : tie.Need-loop-less Inv-loop μ-loop
 loop-less c = search needs
 
 loop-again : tie.Need-loop-again Inv-loop μ-loop
-loop-again c = left-less _ _ _ _ _ _ _ _ _ _ _ (c .before .before .before .before .before .before .before .loop .inv) _ _ _ _ (c .before .before .before .before .before .before .loop-test .taken) (c .before .before .before .before .before .before .before .before .before .before .pre .0) (c .before .before .before .before .before .before .before .before .width-of .ensures) (c .before .before .before .before .group-value .ensures) (c .before .before .before .send-group .ensures) (back _ (record { sfits = c .before .struct-told .given .0 .1 }) ∙ ap (λ (p : Point). p .re) (c .before .before .sent-point .ensures)) (back _ (record { sfits = c .before .struct-told .given .1 .0 .1 }) ∙ ap (λ (p : Point). p .im) (c .before .before .sent-point .ensures))
+loop-again c = left-less _ _ _ _ _ _ _ _ _ _ _ (c .before .before .before .before .before .before .before .before .loop .inv) _ _ _ _ (c .before .before .before .before .before .before .before .loop-test .taken) (c .before .before .before .before .before .before .before .before .before .before .before .before .pre .0) (c .before .before .before .before .before .before .before .before .before .before .width-of .ensures) (c .before .before .before .before .before .group-value .ensures) (c .before .before .before .before .send-group .ensures) (back _ (record { sfits = c .before .struct-told .given .0 .1 }) ∙ ap (λ (p : Point). p .re) (looked-up _ _ _ (c .before .before .before .before .before .before .before .before .before .constellation .ensures))) (back _ (record { sfits = c .before .struct-told .given .1 .0 .1 }) ∙ ap (λ (p : Point). p .im) (looked-up _ _ _ (c .before .before .before .before .before .before .before .before .before .constellation .ensures)))
 
 same-length : tie.Need-same-length Inv-loop μ-loop
 same-length c = search needs
 
 returns : tie.Need-returns Inv-loop μ-loop
 unfolding grouped
-returns c = let e : c .before .loop .left ≡ 0 = omega arith in rw (← c .before .before .width-of .ensures) (sent-all _ _ _ _ _ _ _ _ _ _ _ (c .before .loop .inv) e, wrote-all _ _ _ _ _ _ _ _ _ _ _ (c .before .loop .inv) e)
+returns c = let e : c .before .loop .left ≡ 0 = omega arith in rw (← c .before .before .before .width-of .ensures) (sent-all _ _ _ _ _ _ _ _ _ _ _ (c .before .loop .inv) e, wrote-all _ _ _ _ _ _ _ _ _ _ _ (c .before .loop .inv) e)
 
 pub write-points-spec : {M : Type 1} → statement M
 write-points-spec =
@@ -99,6 +107,7 @@ write-points-spec =
     μ-loop
     width-of-requires
     cast-w
+    constellation-requires
     div-left
     loop-holds
     add-e
@@ -107,7 +116,9 @@ write-points-spec =
     part-group-value-end
     group-value-requires
     send-group-requires
-    sent-point-requires
+    cast-state
+    mul-p
+    array-copy-out-p
     mul-re
     slice-set-from-re
     add-im
