@@ -1,9 +1,8 @@
 -- What the loops over bytes ask, as laws on lists. Assumes nothing.
 use mathlib.Core.Path.{_≡_, refl, sym, ap, _∙_}
-use mathlib.Core.Bool.{Bool, true, false, _&&_}
+use mathlib.Core.Bool.{Bool, true, false, _&&_, and-true, and-assoc}
 use mathlib.Core.List.{List, [], _∷_, _++_, append-nil}
 use borrow.Author.Fill.{fill-more}
-use borrow.Author.Tests.{eq-eqb, ne-eqb}
 use Prim.Native.Nat.{ℕ, zero, suc, _+_, _*_, _-_, _≤_, _<_}
 use native.Mathlib.Numerals.{add-one}
 use native.Mathlib.Nat.{add-suc}
@@ -14,14 +13,16 @@ use lib.Seq.{sets, drop-cons}
 use Rattle.octets.specs.Number.{zeros}
 use Rattle.octets.proofs.Tests.{and-split}
 
-pub zeros-found : (r : List ℕ) (i : ℕ) → i < length r → (getD r i 0 ≡ 0 → ⊥) → zeros (drop i r) ≡ false
-zeros-found r i h ne = rw (drop-cons r i 0 h, ne-eqb (getD r i 0) 0 ne)
+-- one byte more looked at
+pub zeros-step : (r : List ℕ) (i : ℕ) (all so-far : Bool) → i < length r → all ≡ (so-far && zeros (drop i r))
+    → all ≡ (so-far && eqb (getD r i 0) 0 && zeros (drop (i + 1) r))
+zeros-step r i all so-far h e =
+    e ∙ ap (λ (l : List ℕ). so-far && zeros l) (drop-cons r i 0 h)
+    ∙ ap (λ (m : ℕ). so-far && (eqb (getD r i 0) 0 && zeros (drop m r))) (sym (add-one i))
+    ∙ sym (and-assoc so-far (eqb (getD r i 0) 0) (zeros (drop (i + 1) r)))
 
-pub zeros-step : (r : List ℕ) (i : ℕ) → i < length r → getD r i 0 ≡ 0 → zeros (drop i r) ≡ zeros (drop (i + 1) r)
-zeros-step r i h e = rw (drop-cons r i 0 h, eq-eqb (getD r i 0) 0 e, add-one i)
-
-pub zeros-end : (r : List ℕ) (i : ℕ) → length r ≤ i → zeros (drop i r) ≡ true
-zeros-end r i h = ap zeros (drop-of-length-le r h)
+pub zeros-end : (r : List ℕ) (i : ℕ) (all so-far : Bool) → length r ≤ i → all ≡ (so-far && zeros (drop i r)) → so-far ≡ all
+zeros-end r i all so-far h e = sym (e ∙ ap (λ (l : List ℕ). so-far && zeros l) (drop-of-length-le r h) ∙ and-true so-far)
 
 pub zeros-drop : (n : ℕ) (bs : List ℕ) → zeros bs ≡ true → zeros (drop n bs) ≡ true
 zeros-drop zero bs e = e

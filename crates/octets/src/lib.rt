@@ -98,18 +98,17 @@ pub fn put_i16(s: &mut [u8], at: usize, x: i16)
     put16(s, at, pattern_of(x));
 }
 
-// Whether the bytes of `s` from `at` on are zero.
+// Whether the bytes of `s` from `at` on are zero. Every byte is looked at, so that many are compared at once.
 pub fn zero_from(s: &[u8], at: usize) -> bool
     ensures { λ b. ⌜ b ≡ zeros (drop at (now (s .entry))) ⌝ }
 {
+    let mut clear = true;
     let mut i = at;
     while i < s.len() {
-        if s[i] != 0 {
-            return false;
-        }
+        clear = clear & (s[i] == 0);
         i += 1;
     }
-    true
+    clear
 }
 
 pub fn clear(s: &mut [u8])
