@@ -32,7 +32,7 @@ pub const MARK: [u8; 4] = *b"VSYM";
 // ---- records
 
 // Whether a coordinate lies in range.
-fn coordinate_ok(x: i16) -> bool
+pub fn coordinate_ok(x: i16) -> bool
     ensures { λ b. ⌜ b ≡ leb (natAbs x) 16384 ⌝ }
 {
     (-16384 <= x) & (x <= 16384)

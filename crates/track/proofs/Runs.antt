@@ -1,15 +1,16 @@
 -- Points appended one after the other. Assumes nothing.
 use mathlib.Core.Path.{_≡_, refl, sym, ap, ap₂, _∙_, subst}
-use mathlib.Core.Bool.{Bool, true, false, cond}
+use mathlib.Core.Bool.{Bool, true, false, _&&_, cond, and-true, and-assoc}
 use mathlib.Core.List.{List, [], _∷_}
-use Prim.Native.Nat.{ℕ, zero, suc, _+_, _-_, _%_, _≤_, _<_}
+use Prim.Native.Nat.{ℕ, zero, suc, _+_, _-_, _*_, _/_, _%_, _≤_, _<_, min}
+use native.Mathlib.Nat.{add-zero, sub-zero, min-le-left, min-le-right}
 use native.Mathlib.Numerals.{add-one}
 use native.Mathlib.Omega.{arith}
-use borrow.Author.Tests.{eqb-true, eqb-false, eq-eqb, ne-eqb, leb-true, ltb-true}
+use borrow.Author.Tests.{eqb-true, eqb-false, eq-eqb, ne-eqb, leb-true, ltb-true, le-leb, lt-ltb}
 use lib.Dec.{eqb, leb, ltb}
-use lib.IntN.{ℤ, pos}
-use lib.ListN.{length, getD, drop, length-drop}
-use lib.Seq.{drop-cons}
+use lib.IntN.{ℤ, pos, natAbs}
+use lib.ListN.{length, getD, take, drop, length-drop}
+use lib.Seq.{drop-cons, take-all}
 use Rattle.line.specs.declared.Point.{Point}
 use Rattle.line.specs.Point.{at, inRange}
 use Rattle.octets.proofs.Tests.{by-test}
@@ -19,7 +20,7 @@ use Rattle.store.specs.Walk.{Viewed}
 use Rattle.store.proofs.Sounds.{need-zero, or-some, or-zero, or-same}
 use Rattle.track.specs.Append.{mostIntervals, pointAppended, pointNumber, pointResult}
 use Rattle.track.specs.Points.{pairs, eachNumber, eachResult, pointsNumber, pointsResult}
-use Rattle.track.specs.Seen.{spaces, pointSeen, seenNumber}
+use Rattle.track.specs.Seen.{spaces, pointSeen, seenNumber, fit, firstIn}
 use Rattle.track.proofs.Answers.{point-seen, point-free, point-done}
 use Rattle.track.proofs.Places.{point-appended, spaces-less}
 
@@ -37,6 +38,20 @@ short (z ∷ y ∷ zs) h = absurd (omega arith)
 
 pub pairs-end : (zs : List ℤ) (k : ℕ) → length zs ≤ k + 1 → pairs (drop k zs) ≡ []
 pairs-end zs k h = short (drop k zs) (simp length-drop (omega arith))
+
+two-more : (n : ℕ) → 2 * suc n ≡ suc (suc (2 * n))
+two-more n = omega arith
+
+pairs-drop : (n : ℕ) (zs : List ℤ) → pairs (drop (2 * n) zs) ≡ drop n (pairs zs)
+pairs-drop zero zs = refl
+pairs-drop (suc n) [] = ap (λ (m : ℕ). pairs (drop m [])) (two-more n)
+pairs-drop (suc n) (z ∷ []) = ap (λ (m : ℕ). pairs (drop m (z ∷ []))) (two-more n)
+pairs-drop (suc n) (z ∷ y ∷ zs) = ap (λ (m : ℕ). pairs (drop m (z ∷ y ∷ zs))) (two-more n) ∙ pairs-drop n zs
+
+pairs-long : (zs : List ℤ) → length zs / 2 ≤ length (pairs zs)
+pairs-long [] = omega arith
+pairs-long (z ∷ []) = omega arith
+pairs-long (z ∷ y ∷ zs) = omega (arith, pairs-long zs)
 
 -- ---- the first number, without writing
 pub seen-stop : (number t room n : ℕ) (p : Point) (ps : List Point) → n ≡ pointSeen number t room p → (n ≡ 0 → ⊥) → n ≡ seenNumber number t room (p ∷ ps)
@@ -59,6 +74,86 @@ seen-free number t room n p e z =
     let c = need-zero (leb (t + 1) mostIntervals) 16 last (omega arith) (b .1) in
     let d = need-zero (ltb 0 room) 17 0 (omega arith) (c .1) in
     (leb-true (t + 1) 4294967295 (c .0), ltb-true 0 room (d .0))
+
+-- the points that fit at once: number 8, or what is left
+pub fit-facts : (number t room n : ℕ) → t ≤ 4294967295 → (fit number t room n ≤ n) × (fit number t room n ≤ room) × (t + fit number t room n ≤ 4294967295)
+unfolding fit
+fit-facts zero t room n h =
+    let m : ℕ = min room (4294967295 - t) in
+    let a : min n m ≤ n = min-le-left n m in
+    let b : min n m ≤ m = min-le-right n m in
+    let c : m ≤ room = min-le-left room (4294967295 - t) in
+    let d : m ≤ 4294967295 - t = min-le-right room (4294967295 - t) in
+    (a, omega arith, omega arith)
+fit-facts (suc number) t room n h = (omega arith, omega arith, omega arith)
+
+pub fit-zero : (number t room n : ℕ) → number ≡ 0 → min n (min room (4294967295 - t)) ≡ fit number t room n
+unfolding fit
+fit-zero zero t room n e = refl
+fit-zero (suc number) t room n e = absurd (omega arith)
+
+pub fit-some : (number t room n : ℕ) → (number ≡ 0 → ⊥) → 0 ≡ fit number t room n
+unfolding fit
+fit-some zero t room n h = absurd (h refl)
+fit-some (suc number) t room n h = refl
+
+-- one point more looked at
+pub range-step : (zs : List ℤ) (n k : ℕ) (all so-far a b : Bool) → k < n → 2 * n ≤ length zs → a ≡ leb (natAbs (getD zs (2 * k) (pos 0))) 16384
+    → b ≡ leb (natAbs (getD zs (2 * k + 1) (pos 0))) 16384 → all ≡ (so-far && firstIn (n - k) (pairs (drop (2 * k) zs)))
+    → all ≡ (so-far && (a && b) && firstIn (n - (k + 1)) (pairs (drop (2 * (k + 1)) zs)))
+unfolding inRange
+range-step zs n k all so-far a b h l p q e =
+    e ∙ ap₂ (λ (m : ℕ) (ps : List Point). so-far && firstIn m ps) (let z : n - k ≡ suc (n - (k + 1)) = omega arith in z) (pairs-step zs (2 * k) (omega arith))
+    ∙ ap₂ (λ (x y : Bool). so-far && (x && y && firstIn (n - (k + 1)) (pairs (drop (2 * k + 2) zs)))) (sym p) (sym q)
+    ∙ ap (λ (m : ℕ). so-far && (a && b && firstIn (n - (k + 1)) (pairs (drop m zs)))) (let z : 2 * k + 2 ≡ 2 * (k + 1) = omega arith in z)
+    ∙ sym (and-assoc so-far (a && b) (firstIn (n - (k + 1)) (pairs (drop (2 * (k + 1)) zs))))
+
+pub range-end : (zs : List ℤ) (n k : ℕ) (all so-far : Bool) → n ≤ k → all ≡ (so-far && firstIn (n - k) (pairs (drop (2 * k) zs))) → so-far ≡ all
+range-end zs n k all so-far h e =
+    sym (e ∙ ap (λ (m : ℕ). so-far && firstIn m (pairs (drop (2 * k) zs))) (let z : n - k ≡ 0 = omega arith in z) ∙ and-true so-far)
+
+seen-in : (t room : ℕ) (p : Point) → t + 1 ≤ 4294967295 → 0 < room → pointSeen 0 t room p ≡ need (inRange p) 8 0
+unfolding pointSeen
+seen-in t room p h k = rw (le-leb (t + 1) 4294967295 h, lt-ltb 0 room k)
+
+need-both : (a b : Bool) (x : ℕ) → orElse (need a 8 0) (need b 8 x) ≡ need (a && b) 8 x
+need-both true b x = refl
+need-both false b x = refl
+
+seen-run : (m t room : ℕ) (ps : List Point) → m ≤ length ps → m ≤ room → t + m ≤ 4294967295
+    → seenNumber 0 t room ps ≡ need (firstIn m ps) 8 (seenNumber 0 (t + m) (room - m) (drop m ps))
+unfolding seenNumber
+seen-run zero t room ps a b c = rw (add-zero t, sub-zero room)
+seen-run (suc m) t room [] a b c = absurd (omega arith)
+seen-run (suc m) t room (p ∷ ps) a b c =
+    ap₂ orElse (seen-in t room p (omega arith) (omega arith)) (seen-run m (t + 1) (room - 1) ps (omega arith) (omega arith) (omega arith))
+    ∙ need-both (inRange p) (firstIn m ps) (seenNumber 0 (t + 1 + m) (room - 1 - m) (drop m ps))
+    ∙ ap₂ (λ (x y : ℕ). need (inRange p && firstIn m ps) 8 (seenNumber 0 x y (drop m ps))) (let e : t + 1 + m ≡ t + suc m = omega arith in e) (let e : room - 1 - m ≡ room - suc m = omega arith in e)
+
+seen-fit : (number t room n : ℕ) (ps : List Point) → t ≤ 4294967295 → n ≤ length ps
+    → seenNumber number t room ps
+    ≡ need (firstIn (fit number t room n) ps) 8 (seenNumber number (t + fit number t room n) (room - fit number t room n) (drop (fit number t room n) ps))
+seen-fit zero t room n ps h l =
+    let f = fit-facts 0 t room n h in
+    seen-run (fit 0 t room n) t room ps (omega (arith, f .0)) (f .1) (f .2)
+seen-fit (suc number) t room n ps h l = unfold fit in (rw (add-zero t, sub-zero room))
+
+-- and of the numbers
+seen-numbers : (number t room n : ℕ) (zs : List ℤ) → t ≤ 4294967295 → n ≡ fit number t room (length zs / 2)
+    → seenNumber number t room (pairs zs) ≡ need (firstIn n (pairs zs)) 8 (seenNumber number (t + n) (room - n) (pairs (drop (2 * n) zs)))
+seen-numbers number t room n zs h e =
+    rw (e, pairs-drop) (seen-fit number t room (length zs / 2) (pairs zs) h (pairs-long zs))
+
+pub seen-fitted : (number t room n x : ℕ) (zs : List ℤ) → t ≤ 4294967295 → n ≡ fit number t room (length zs / 2) → firstIn n (pairs zs) ≡ true
+    → x ≡ seenNumber number (t + n) (room - n) (pairs (take (length zs - 2 * n) (drop (2 * n) zs))) → x ≡ seenNumber number t room (pairs zs)
+seen-fitted number t room n x zs h e f g =
+    g ∙ ap (λ (l : List ℤ). seenNumber number (t + n) (room - n) (pairs l)) (take-all (length zs - 2 * n) (drop (2 * n) zs) (simp length-drop (omega arith)))
+    ∙ sym (seen-numbers number t room n zs h e ∙ ap (λ (b : Bool). need b 8 (seenNumber number (t + n) (room - n) (pairs (drop (2 * n) zs)))) f)
+
+pub seen-outside : (number t room n : ℕ) (zs : List ℤ) → t ≤ 4294967295 → n ≡ fit number t room (length zs / 2) → firstIn n (pairs zs) ≡ false
+    → 8 ≡ seenNumber number t room (pairs zs)
+seen-outside number t room n zs h e f =
+    sym (seen-numbers number t room n zs h e ∙ ap (λ (b : Bool). need b 8 (seenNumber number (t + n) (room - n) (pairs (drop (2 * n) zs)))) f)
 
 -- it is the number of the appends one after the other
 pub each-seen : (s : List ℕ) (number t room : ℕ) (ps : List Point) → number ≡ refusal s → (number ≡ 0 → t ≡ total s) → (number ≡ 0 → room ≡ spaces s)

@@ -1,7 +1,7 @@
 -- What an append sees of a store: the contracts of the private functions.
-use mathlib.Core.Bool.{Bool, not, cond}
+use mathlib.Core.Bool.{Bool, true, not, _&&_, cond}
 use mathlib.Core.List.{List, [], _∷_}
-use Prim.Native.Nat.{ℕ, zero, suc, _+_, _*_, _-_}
+use Prim.Native.Nat.{ℕ, zero, suc, _+_, _*_, _-_, min}
 use lib.Dec.{ltb, leb}
 use Rattle.line.specs.declared.Point.{Point}
 use Rattle.line.specs.Point.{inRange}
@@ -26,3 +26,13 @@ lostSeen number t full n =
 unfoldable pub seenNumber : ℕ → ℕ → ℕ → List Point → ℕ
 seenNumber number t room [] = 0
 seenNumber number t room (p ∷ ps) = orElse (pointSeen number t room p) (seenNumber number (t + 1) (room - 1) ps)
+
+-- how many of n points only number 8 can refuse; the first n points are in range
+unfoldable pub fit : ℕ → ℕ → ℕ → ℕ → ℕ
+fit zero t room n = min n (min room (mostIntervals - t))
+fit (suc number) t room n = 0
+
+abbrev pub firstIn : ℕ → List Point → Bool
+firstIn zero ps = true
+firstIn (suc n) [] = true
+firstIn (suc n) (p ∷ ps) = inRange p && firstIn n ps

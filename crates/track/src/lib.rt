@@ -13,6 +13,7 @@ use octets::put32;
 use store::MARK;
 use store::TOTAL_AT;
 use store::View;
+use store::coordinate_ok;
 use store::inspect;
 use store::link_in;
 use store::need;
@@ -22,7 +23,7 @@ use store::size_ok;
 ghost use mathlib.Core.Path.{_≡_};
 ghost use mathlib.Core.Bool.{true, false};
 ghost use mathlib.Core.List.{[], _∷_};
-ghost use Prim.Native.Nat.{_+_, _*_, _≤_, _<_};
+ghost use Prim.Native.Nat.{_+_, _*_, _≤_, _<_, min};
 ghost use lib.ListN.{length};
 ghost use Rattle.line.specs.Point.{at};
 ghost use Rattle.octets.specs.Number.{le16, le32};
@@ -30,7 +31,7 @@ ghost use Rattle.store.specs.Layout.{rec, write, linkIn, totalAt, held, lostRec
 ghost use Rattle.store.specs.Walk.{Viewed};
 ghost use Rattle.track.specs.Append.{made, makeNumber, makeResult, lostNumber, lostResult, hasRoom, pointNumber, pointAppended, pointResult};
 ghost use Rattle.track.specs.Points.{pairs, eachNumber, eachResult, pointsNumber, pointsResult};
-ghost use Rattle.track.specs.Seen.{spaces, pointSeen, lostSeen, seenNumber};
+ghost use Rattle.track.specs.Seen.{spaces, pointSeen, lostSeen, seenNumber, firstIn, fit};
 
 const MOST_INTERVALS: usize = 4294967295;
 
@@ -237,8 +238,8 @@ pub fn append_point(store: &mut [u8], re: i16, im: i16) -> u8
 
 // ---- many points by one call
 
-// The number of the first point that is refused, or 0.
-fn points_number(number: u8, total: usize, room: usize, points: &[i16]) -> u8
+// The number of the first point that is refused, or 0, point by point.
+fn each_number(number: u8, total: usize, room: usize, points: &[i16]) -> u8
     requires { ⌜ total ≤ 4294967295 ⌝ }
     ensures { λ r. ⌜ r ≡ seenNumber number total room (pairs (now (points .entry))) ⌝ }
 {
@@ -255,6 +256,50 @@ fn points_number(number: u8, total: usize, room: usize, points: &[i16]) -> u8
         k += 2;
     }
     0
+}
+
+// Whether the first n points are in range. Every one is looked at, so that many are compared at once.
+fn points_in_range(points: &[i16], n: usize) -> bool
+    requires { ⌜ 2 * n ≤ length (now points) ⌝ }
+    ensures { λ b. ⌜ b ≡ firstIn n (pairs (now (points .entry))) ⌝ }
+{
+    let mut fine = true;
+    let mut k = 0;
+    while k < n {
+        fine = fine & (coordinate_ok(points[2 * k]) & coordinate_ok(points[2 * k + 1]));
+        k += 1;
+    }
+    fine
+}
+
+fn lesser(a: usize, b: usize) -> usize
+    ensures { λ r. ⌜ r ≡ min a b ⌝ }
+{
+    if a < b { a } else { b }
+}
+
+// How many of n points only number 8 can refuse.
+fn fitting(number: u8, total: usize, room: usize, n: usize) -> usize
+    requires { ⌜ total ≤ 4294967295 ⌝ }
+    ensures { λ r. ⌜ (r ≡ fit number total room n) × (r ≤ n) × (r ≤ room) × (total + r ≤ 4294967295) ⌝ }
+{
+    if number == 0 {
+        return lesser(n, lesser(room, MOST_INTERVALS - total));
+    }
+    0
+}
+
+// The number of the first point that is refused, or 0: those that fit at once, then what is left.
+fn points_number(number: u8, total: usize, room: usize, points: &[i16]) -> u8
+    requires { ⌜ total ≤ 4294967295 ⌝ }
+    ensures { λ r. ⌜ r ≡ seenNumber number total room (pairs (now (points .entry))) ⌝ }
+{
+    let n = fitting(number, total, room, points.len() / 2);
+    if points_in_range(points, n) {
+        let from = 2 * n;
+        return each_number(number, total + n, room - n, &points[from..]);
+    }
+    8
 }
 
 // Appends points that nothing refuses to the store that `v` shows.
