@@ -10,19 +10,21 @@ use borrow.Author.Tests.{eqb-true, eqb-false, eq-eqb, ne-eqb, leb-true, ltb-true
 use lib.Dec.{eqb, leb, ltb}
 use lib.IntN.{ℤ, pos, natAbs}
 use lib.ListN.{length, getD, take, drop, length-drop}
-use lib.Seq.{drop-cons, take-all}
+use lib.Seq.{sets, length-sets, drop-cons, take-all}
 use Rattle.line.specs.declared.Point.{Point}
 use Rattle.line.specs.Point.{at, inRange}
 use Rattle.octets.proofs.Tests.{by-test}
+use Rattle.octets.specs.Number.{le32}
 use Rattle.store.specs.declared.View.{View}
+use Rattle.track.specs.declared.End.{End}
 use Rattle.store.specs.Store.{need, orElse, total, refusal}
 use Rattle.store.specs.Walk.{Viewed}
-use Rattle.store.proofs.Sounds.{need-zero, or-some, or-zero, or-same}
+use Rattle.store.proofs.Sounds.{need-zero, or-some, or-zero, or-same, accepted-sound, sound-last}
 use Rattle.track.specs.Append.{mostIntervals, pointAppended, pointNumber, pointResult}
 use Rattle.track.specs.Points.{pairs, eachNumber, eachResult, pointsNumber, pointsResult}
-use Rattle.track.specs.Seen.{spaces, pointSeen, seenNumber, fit, firstIn}
+use Rattle.track.specs.Seen.{spaces, pointSeen, seenNumber, fit, firstIn, Ends, Reach, placed, nextEnd}
 use Rattle.track.proofs.Answers.{point-seen, point-free, point-done}
-use Rattle.track.proofs.Places.{point-appended, spaces-less}
+use Rattle.track.proofs.Places.{point-appended, spaces-less, Apart, apart-placed, total-over, placed-total, ends-next, last-positive, new-room}
 
 -- ---- the points of a list of numbers
 pub pairs-step : (zs : List ℤ) (k : ℕ) → k + 1 < length zs
@@ -172,39 +174,83 @@ each-seen s number t room (p ∷ ps) w f g =
     ∙ ap (λ (x : ℕ). orElse x (eachNumber (pointResult s p) ps)) (point-seen s number t room p w f g)
 
 -- ---- writing
--- after the numbers before place k: what is left to append is all that is left to do
-pub record Placing (s₀ s : List ℕ) (w : View) (zs : List ℤ) (k : ℕ) : Type 0 where
+-- after the numbers before place k the bytes are s, and with the total they are `full`: what is left to append to it is all
+-- that is left to do
+pub record Placing (s₀ s : List ℕ) (d : End) (t : ℕ) (zs : List ℤ) (k : ℕ) : Type 0 where
+  pub full : List ℕ
   pub place : k ≤ length zs + 1
   pub long : length s ≡ length s₀
-  pub view : Viewed s w
-  pub free : eachNumber s (pairs (drop k zs)) ≡ 0
-  pub left : eachResult s (pairs (drop k zs)) ≡ eachResult s₀ (pairs zs)
+  pub like : Apart s full
+  pub kept : 0 < k → sets full 8 (le32 t) ≡ full
+  pub ends : Ends full t d
+  pub fits : t < 4294967296
+  pub free : eachNumber full (pairs (drop k zs)) ≡ 0
+  pub left : eachResult full (pairs (drop k zs)) ≡ eachResult s₀ (pairs zs)
 
-module _ (s₀ s : List ℕ) (w : View) (zs : List ℤ) (k : ℕ) (g : Placing s₀ s w zs k) (h : k + 1 < length zs) where
+first-free : (s : List ℕ) (zs : List ℤ) (k : ℕ) → k + 1 < length zs → eachNumber s (pairs (drop k zs)) ≡ 0
+    → (pointNumber s (at (getD zs k (pos 0)) (getD zs (k + 1) (pos 0))) ≡ 0)
+    × (eachNumber (pointResult s (at (getD zs k (pos 0)) (getD zs (k + 1) (pos 0)))) (pairs (drop (k + 2) zs)) ≡ 0)
+first-free s zs k h e = or-zero _ _ (sym (ap (eachNumber s) (pairs-step zs k h)) ∙ e)
+
+pub placing-start : (s : List ℕ) (v : View) (d : End) (zs : List ℤ) → Viewed s v → eachNumber s (pairs zs) ≡ 0 → 2 ≤ length zs
+    → (v .number ≡ 0 → Ends s (v .total) d) → Placing s s d (v .total) zs 0
+placing-start s v d zs w e h g =
+    let a : refusal s ≡ 0 = point-free s _ (first-free s zs 0 (omega arith) e .0) .accepted in
+    record {
+      full = s;
+      place = omega arith;
+      long = refl;
+      like = λ z l. refl;
+      kept = λ p. absurd (omega arith);
+      ends = g (w .number ∙ a);
+      fits = w .small .2;
+      free = e;
+      left = refl;
+    }
+
+module _ (s₀ s : List ℕ) (d : End) (t : ℕ) (zs : List ℤ) (k : ℕ) (g : Placing s₀ s d t zs k) (h : k + 1 < length zs) where
   abbrev here : Point
   here = at (getD zs k (pos 0)) (getD zs (k + 1) (pos 0))
 
-  both : (pointNumber s here ≡ 0) × (eachNumber (pointResult s here) (pairs (drop (k + 2) zs)) ≡ 0)
-  both =
-      or-zero (pointNumber s here) (eachNumber (pointResult s here) (pairs (drop (k + 2) zs)))
-      (sym (ap (eachNumber s) (pairs-step zs k h)) ∙ g .free)
+  here-free : pointNumber (g .full) here ≡ 0
+  here-free = first-free (g .full) zs k h (g .free) .0
 
-  pub placing-free : pointNumber s here ≡ 0
-  placing-free = both .0
+  same-long : length s ≡ length (g .full)
+  same-long = sym (length-sets s 8 (le32 0)) ∙ ap length (g .like (le32 0) refl) ∙ length-sets (g .full) 8 (le32 0)
 
-  pub placing-step : (s′ : List ℕ) (w′ : View) → s′ ≡ pointAppended s here → Viewed s′ w′ → length s′ ≡ length s → Placing s₀ s′ w′ zs (k + 2)
-  placing-step s′ w′ e v l =
-      let r : s′ ≡ pointResult s here = e ∙ point-done s here placing-free in
+  pub placing-reach : Reach (length s) d
+  placing-reach =
+      let o = accepted-sound (g .full) (g .ends .accepted) in
       record {
-        place = omega arith;
-        long = l ∙ g .long;
-        view = v;
-        free = ap (λ (u : List ℕ). eachNumber u (pairs (drop (k + 2) zs))) r ∙ both .1;
-        left = ap (λ (u : List ℕ). eachResult u (pairs (drop (k + 2) zs))) r ∙ sym (ap (eachResult s) (pairs-step zs k h)) ∙ g .left;
+        last-in = omega (arith, same-long, o .whole, sound-last (g .full) o, g .ends .last);
+        new-in = λ n. omega (arith, same-long, o .whole, new-room (g .full) here here-free t d (g .ends) n);
       }
 
-pub placing-end : (s₀ s : List ℕ) (w : View) (zs : List ℤ) (k : ℕ) → Placing s₀ s w zs k → length zs ≤ k + 1 → s ≡ eachResult s₀ (pairs zs)
-placing-end s₀ s w zs k g h = sym (ap (eachResult s) (pairs-end zs k h)) ∙ g .left
+  pub placing-step : (s′ : List ℕ) (d′ : End) → s′ ≡ placed s d here → d′ ≡ nextEnd d → length s′ ≡ length s → Placing s₀ s′ d′ (t + 1) zs (k + 2)
+  placing-step s′ d′ e q l =
+      let u : List ℕ = pointAppended (g .full) here in
+      let r : u ≡ pointResult (g .full) here = point-done (g .full) here here-free in
+      let o = total-over (placed (g .full) d here) u (t + 1) (placed-total (g .full) here here-free t d (g .ends)) in
+      record {
+        full = u;
+        place = omega arith;
+        long = l ∙ g .long;
+        like = λ z n. ap (λ (x : List ℕ). sets x 8 z) e
+            ∙ apart-placed s (g .full) d here (last-positive (g .full) here here-free t d (g .ends)) (g .like) z n ∙ o .0 z n;
+        kept = λ p. o .1;
+        ends = subst (Ends u (t + 1)) (sym q) (ends-next (g .full) here here-free t d (g .ends));
+        fits = omega (arith, point-free (g .full) here here-free .fits, g .ends .total-is);
+        free = ap (λ (x : List ℕ). eachNumber x (pairs (drop (k + 2) zs))) r ∙ first-free (g .full) zs k h (g .free) .1;
+        left = ap (λ (x : List ℕ). eachResult x (pairs (drop (k + 2) zs))) r ∙ sym (ap (eachResult (g .full)) (pairs-step zs k h)) ∙ g .left;
+      }
+
+pub placing-end : (s₀ s s′ : List ℕ) (d : End) (t : ℕ) (zs : List ℤ) (k : ℕ) → Placing s₀ s d t zs k → 2 ≤ length zs → length zs ≤ k + 1
+    → s′ ≡ sets s 8 (le32 t) → s′ ≡ eachResult s₀ (pairs zs)
+placing-end s₀ s s′ d t zs k g two h e =
+    e ∙ g .like (le32 t) refl ∙ g .kept (omega arith) ∙ sym (ap (eachResult (g .full)) (pairs-end zs k h)) ∙ g .left
+
+pub placing-none : (s : List ℕ) (zs : List ℤ) → length zs < 2 → s ≡ eachResult s (pairs zs)
+placing-none s zs h = sym (ap (eachResult s) (pairs-end zs 0 (omega arith)))
 
 -- ---- the call
 pub points-odd : (s : List ℕ) (zs : List ℤ) → (length zs % 2 ≡ 0 → ⊥) → (7 ≡ pointsNumber s zs) × (s ≡ pointsResult s zs)
@@ -222,3 +268,16 @@ points-done s zs e = rw (eq-eqb (pointsNumber s zs) 0 e)
 pub points-kept : (s : List ℕ) (zs : List ℤ) → (pointsNumber s zs ≡ 0 → ⊥) → s ≡ pointsResult s zs
 unfolding pointsResult
 points-kept s zs h = rw (ne-eqb (pointsNumber s zs) 0 h)
+
+-- ---- one point
+or-none : (a : ℕ) → orElse a 0 ≡ a
+or-none zero = refl
+or-none (suc a) = refl
+
+pub one-number : (s : List ℕ) (x y : ℤ) → pointsNumber s (x ∷ y ∷ []) ≡ pointNumber s (at x y)
+unfolding pointsNumber
+one-number s x y = or-none (pointNumber s (at x y))
+
+pub one-result : (s : List ℕ) (x y : ℤ) → pointsResult s (x ∷ y ∷ []) ≡ pointResult s (at x y)
+unfolding pointsResult pointResult
+one-result s x y = rw (one-number s x y) (by-test (eqb (pointNumber s (at x y)) 0) (λ e. rw e) (λ e. rw e))
