@@ -1,9 +1,10 @@
 -- What the loops over bytes ask, as laws on lists. Assumes nothing.
 use mathlib.Core.Path.{_≡_, refl, sym, ap, _∙_}
+use mathlib.Core.Logic.{⊎-elim}
 use mathlib.Core.Bool.{Bool, true, false, _&&_, and-true, and-assoc}
 use mathlib.Core.List.{List, [], _∷_, _++_, append-nil}
 use borrow.Author.Fill.{fill-more}
-use Prim.Native.Nat.{ℕ, zero, suc, _+_, _*_, _-_, _≤_, _<_}
+use Prim.Native.Nat.{ℕ, zero, suc, _+_, _*_, _-_, _≤_, _<_, min}
 use native.Mathlib.Numerals.{add-one}
 use native.Mathlib.Nat.{add-suc}
 use native.Mathlib.Omega.{arith}
@@ -11,7 +12,8 @@ use lib.Dec.{eqb}
 use lib.ListN.{length, getD, set, drop, drop-of-length-le, replicate}
 use lib.Seq.{sets, drop-cons}
 use Rattle.octets.specs.Number.{zeros}
-use Rattle.octets.proofs.Tests.{and-split}
+use Rattle.octets.proofs.Sets.{sets-out}
+use Rattle.octets.proofs.Tests.{and-split, lt-or-ge}
 
 -- one byte more looked at
 pub zeros-step : (r : List ℕ) (i : ℕ) (all so-far : Bool) → i < length r → all ≡ (so-far && zeros (drop i r))
@@ -39,6 +41,12 @@ copy-step s₀ s r at k e h =
 
 pub copy-end : (s₀ s r : List ℕ) (at k : ℕ) → sets s (at + k) (drop k r) ≡ sets s₀ at r → length r ≤ k → s ≡ sets s₀ at r
 copy-end s₀ s r at k e h = sym (ap (sets s (at + k)) (drop-of-length-le r h)) ∙ e
+
+-- a copy of as many bytes as there are, or as there is room for
+pub copy-all : (s₀ s r : List ℕ) (at k n : ℕ) → sets s (at + k) (drop k r) ≡ sets s₀ at r → length s ≡ length s₀ → n ≡ min (length s₀ - at) (length r) → n ≤ k
+    → s ≡ sets s₀ at r
+copy-all s₀ s r at k n e l m h =
+    ⊎-elim (λ q. sym (sets-out (drop k r) s (at + k) (omega arith)) ∙ e) (copy-end s₀ s r at k e) (lt-or-ge k (length r))
 
 -- one byte more cleared
 pub clear-step : (s₀ s : List ℕ) (i : ℕ) → i < length s₀ → s ≡ replicate i 0 ++ drop i s₀ → set s i 0 ≡ replicate (i + 1) 0 ++ drop (i + 1) s₀

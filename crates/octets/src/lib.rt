@@ -1,7 +1,7 @@
 // Numbers in bytes, little-endian, and runs of bytes. Every function is total: a byte past the end reads as 0 and is not written.
 ghost use mathlib.Core.Path.{_≡_};
 ghost use mathlib.Core.List.{[], _∷_};
-ghost use Prim.Native.Nat.{_<_};
+ghost use Prim.Native.Nat.{_<_, min};
 ghost use lib.ListN.{length, drop, getD, replicate};
 ghost use lib.Seq.{sets};
 ghost use Rattle.octets.specs.Number.{u16, u32, le16, le32, pattern, signed, i16, leI16, zeros};
@@ -121,6 +121,12 @@ pub fn clear(s: &mut [u8])
     }
 }
 
+pub fn lesser(a: usize, b: usize) -> usize
+    ensures { λ r. ⌜ r ≡ min a b ⌝ }
+{
+    if a < b { a } else { b }
+}
+
 // The bytes of `r` into `s` from `at` on.
 pub fn put_all(s: &mut [u8], at: usize, r: &[u8])
     ensures { λ _. ⌜ now (s .exit) ≡ sets (now (s .entry)) at (now (r .entry)) ⌝ }
@@ -128,9 +134,10 @@ pub fn put_all(s: &mut [u8], at: usize, r: &[u8])
     if s.len() <= at {
         return;
     }
+    let n = lesser(s.len() - at, r.len());
     let mut k = 0;
-    while k < r.len() {
-        put8(s, at + k, r[k]);
+    while k < n {
+        s[at + k] = r[k];
         k += 1;
     }
 }

@@ -4,6 +4,7 @@ use line::mode_ok;
 use line::role_ok;
 use octets::clear;
 use octets::get8;
+use octets::lesser;
 use octets::pattern_of;
 use octets::put_all;
 use octets::put8;
@@ -22,7 +23,7 @@ use store::size_ok;
 ghost use mathlib.Core.Path.{_≡_};
 ghost use mathlib.Core.Bool.{true, false};
 ghost use mathlib.Core.List.{[], _∷_};
-ghost use Prim.Native.Nat.{_+_, _*_, _≤_, _<_, min};
+ghost use Prim.Native.Nat.{_+_, _*_, _≤_, _<_};
 ghost use lib.ListN.{length};
 ghost use Rattle.line.specs.Point.{at};
 ghost use Rattle.octets.specs.Number.{le16, le32};
@@ -288,12 +289,6 @@ fn points_in_range(points: &[i16], n: usize) -> bool
         k += 1;
     }
     fine
-}
-
-fn lesser(a: usize, b: usize) -> usize
-    ensures { λ r. ⌜ r ≡ min a b ⌝ }
-{
-    if a < b { a } else { b }
 }
 
 // How many of n points only number 8 can refuse.
