@@ -6,7 +6,7 @@ use Prim.Native.Nat.{ℕ, zero, suc, _+_, _*_, _-_, _≤_, _<_}
 use native.Mathlib.Nat.{add-suc, suc-add}
 use native.Mathlib.Omega.{arith}
 use lib.ListN.{length, getD, set, take, drop, length-set}
-use lib.Seq.{sets, length-sets, take-set-le, drop-set-lt, take-set-lt, drop-set-add, getD-set-same, getD-set-other, set-out}
+use lib.Seq.{sets, length-sets, take-set-le, drop-set-lt, take-set-lt, drop-set-add, getD-set-same, getD-set-other, set-set, set-comm, set-out}
 
 module _ {A : Type 0} where
   pub take-sets-le : (vs l : List A) (n i : ℕ) → n ≤ i → take n (sets l i vs) ≡ take n l
@@ -60,6 +60,29 @@ module _ {A : Type 0} where
   pub sets-then : (u v l : List A) (i j : ℕ) → i + length u ≡ j → sets (sets l i u) j v ≡ sets l i (u ++ v)
   sets-then [] v l i j e = ap (λ (k : ℕ). sets l k v) (omega arith)
   sets-then (x ∷ u) v l i j e = sets-then u v (set l i x) (suc i) j (omega arith)
+
+  -- runs that do not meet change places; a run written again over one as long
+  set-sets : (us l : List A) (i j : ℕ) (a : A) → (i < j) ⊎ (j + length us ≤ i) → set (sets l j us) i a ≡ sets (set l i a) j us
+  set-sets [] l i j a h = refl
+  set-sets (u ∷ us) l i j a (inl h) =
+      set-sets us (set l j u) i (suc j) a (inl (omega arith)) ∙ ap (λ (k : List A). sets k (suc j) us) (set-comm l j i u a (omega arith))
+  set-sets (u ∷ us) l i j a (inr h) =
+      set-sets us (set l j u) i (suc j) a (inr (omega arith)) ∙ ap (λ (k : List A). sets k (suc j) us) (set-comm l j i u a (omega arith))
+
+  pub sets-swap : (v u l : List A) (i j : ℕ) → (i + length u ≤ j) ⊎ (j + length v ≤ i) → sets (sets l i u) j v ≡ sets (sets l j v) i u
+  sets-swap [] u l i j h = refl
+  sets-swap (b ∷ v) u l i j (inl h) =
+      ap (λ (k : List A). sets k (suc j) v) (set-sets u l j i b (inr h)) ∙ sets-swap v u (set l j b) i (suc j) (inl (omega arith))
+  sets-swap (b ∷ v) u l i j (inr h) =
+      ap (λ (k : List A). sets k (suc j) v) (set-sets u l j i b (inl (omega arith))) ∙ sets-swap v u (set l j b) i (suc j) (inr (omega arith))
+
+  pub sets-over : (u v l : List A) (i : ℕ) → length u ≡ length v → sets (sets l i u) i v ≡ sets l i v
+  sets-over [] [] l i e = refl
+  sets-over [] (b ∷ v) l i e = absurd (omega arith)
+  sets-over (a ∷ u) [] l i e = absurd (omega arith)
+  sets-over (a ∷ u) (b ∷ v) l i e =
+      ap (λ (k : List A). sets k (suc i) v) (set-sets u (set l i a) i (suc i) b (inl (omega arith)) ∙ ap (λ (k : List A). sets k (suc i) u) (set-set l i a b))
+      ∙ sets-over u v (set l i b) (suc i) (omega arith)
 
   -- a run past the end is not written
   pub sets-out : (vs l : List A) (i : ℕ) → length l ≤ i → sets l i vs ≡ l

@@ -1,7 +1,7 @@
 // Numbers in bytes, little-endian, and runs of bytes. Every function is total: a byte past the end reads as 0 and is not written.
 ghost use mathlib.Core.Path.{_≡_};
 ghost use mathlib.Core.List.{[], _∷_};
-ghost use Prim.Native.Nat.{_<_};
+ghost use Prim.Native.Nat.{_<_, min};
 ghost use lib.ListN.{length, drop, getD, replicate};
 ghost use lib.Seq.{sets};
 ghost use Rattle.octets.specs.Number.{u16, u32, le16, le32, pattern, signed, i16, leI16, zeros};
@@ -98,18 +98,17 @@ pub fn put_i16(s: &mut [u8], at: usize, x: i16)
     put16(s, at, pattern_of(x));
 }
 
-// Whether the bytes of `s` from `at` on are zero.
+// Whether the bytes of `s` from `at` on are zero. Every byte is looked at, so that many are compared at once.
 pub fn zero_from(s: &[u8], at: usize) -> bool
     ensures { λ b. ⌜ b ≡ zeros (drop at (now (s .entry))) ⌝ }
 {
+    let mut clear = true;
     let mut i = at;
     while i < s.len() {
-        if s[i] != 0 {
-            return false;
-        }
+        clear = clear & (s[i] == 0);
         i += 1;
     }
-    true
+    clear
 }
 
 pub fn clear(s: &mut [u8])
@@ -122,6 +121,12 @@ pub fn clear(s: &mut [u8])
     }
 }
 
+pub fn lesser(a: usize, b: usize) -> usize
+    ensures { λ r. ⌜ r ≡ min a b ⌝ }
+{
+    if a < b { a } else { b }
+}
+
 // The bytes of `r` into `s` from `at` on.
 pub fn put_all(s: &mut [u8], at: usize, r: &[u8])
     ensures { λ _. ⌜ now (s .exit) ≡ sets (now (s .entry)) at (now (r .entry)) ⌝ }
@@ -129,9 +134,10 @@ pub fn put_all(s: &mut [u8], at: usize, r: &[u8])
     if s.len() <= at {
         return;
     }
+    let n = lesser(s.len() - at, r.len());
     let mut k = 0;
-    while k < r.len() {
-        put8(s, at + k, r[k]);
+    while k < n {
+        s[at + k] = r[k];
         k += 1;
     }
 }

@@ -7,7 +7,8 @@ use native.Mathlib.Omega.{arith}
 use borrow.Author.Tests.{eqb-true, eq-eqb, leb-true, le-leb}
 use lib.Dec.{eqb, leb}
 use lib.ListN.{length}
-use Rattle.octets.proofs.Tests.{by-test, and-split}
+use Rattle.line.proofs.RefusalLaws.{next-first, next-rest}
+use Rattle.octets.proofs.Tests.{and-split}
 use Rattle.store.specs.Chain.{all, distinct, greatest, lastOf, sumOver}
 use Rattle.store.specs.Layout.{count, rec, next, recordOk, spanOf}
 use Rattle.store.specs.Store.{need, orElse, chain, lastIn, total, sizeOk, headOk, chainOk, recordsOk, totalOk, refusal}
@@ -25,8 +26,7 @@ or-some zero b h = absurd (h refl)
 or-some (suc a) b h = refl
 
 pub or-zero : (a b : ℕ) → orElse a b ≡ 0 → (a ≡ 0) × (b ≡ 0)
-or-zero zero b e = (refl, e)
-or-zero (suc a) b e = absurd (omega arith)
+or-zero a b e = (next-first a b e, next-rest a b e)
 
 pub or-same : (a b b′ : ℕ) → (a ≡ 0 → b ≡ b′) → orElse a b ≡ orElse a b′
 or-same zero b b′ h = h refl

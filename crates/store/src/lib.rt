@@ -1,5 +1,4 @@
 // The records of a track store, their chain, and numbers 11 to 15. Document 01, "Track store".
-use line::in_range;
 use line::mode_ok;
 use line::role_ok;
 use octets::get_i16;
@@ -11,6 +10,8 @@ ghost use mathlib.Core.Path.{_≡_};
 ghost use mathlib.Core.Bool.{true, false, _&&_};
 ghost use mathlib.Core.List.{[], _∷_};
 ghost use Prim.Native.Nat.{_+_, _*_, _≤_, _<_, max};
+ghost use lib.Dec.{leb};
+ghost use lib.IntN.{natAbs};
 ghost use lib.ListN.{length, drop};
 ghost use lib.Seq.{sets};
 ghost use Rattle.line.specs.Point.{inRange};
@@ -30,28 +31,34 @@ pub const MARK: [u8; 4] = *b"VSYM";
 
 // ---- records
 
+// Whether a coordinate lies in range.
+pub fn coordinate_ok(x: i16) -> bool
+    ensures { λ b. ⌜ b ≡ leb (natAbs x) 16384 ⌝ }
+{
+    (-16384 <= x) & (x <= 16384)
+}
+
 // Whether a point at byte `at` lies in range.
 fn point_ok(r: &[u8], at: usize) -> bool
     requires { ⌜ at < 256 ⌝ }
     ensures { λ b. ⌜ b ≡ inRange (Rattle.line.specs.Point.at (i16 (now (r .entry)) at) (i16 (now (r .entry)) (at + 2))) ⌝ }
 {
-    in_range(get_i16(r, at), get_i16(r, at + 2))
+    coordinate_ok(get_i16(r, at)) & coordinate_ok(get_i16(r, at + 2))
 }
 
-// Whether the bytes from 4 on are `n` points in range, and zeros after them.
+// Whether the bytes from 4 on are `n` points in range, and zeros after them. All 7 places are looked at, since zeros are a
+// point in range: a loop of a fixed length compares them at once.
 fn points_ok(r: &[u8], n: usize) -> bool
     requires { ⌜ n ≤ 7 ⌝ }
     ensures { λ b. ⌜ b ≡ pointsOk (drop 4 (now (r .entry))) n ⌝ }
 {
+    let mut fine = true;
     let mut k = 0;
-    while k < n {
-        let at = 4 + 4 * k;
-        if !point_ok(r, at) {
-            return false;
-        }
+    while k < 7 {
+        fine = fine & point_ok(r, 4 + 4 * k);
         k += 1;
     }
-    zero_from(r, 4 + 4 * n)
+    fine & zero_from(r, 4 + 4 * n)
 }
 
 // Whether a chain record keeps to the layout.
@@ -115,10 +122,10 @@ pub fn link_in(i: usize) -> usize
 }
 
 fn next_of(s: &[u8], i: usize) -> usize
-    requires { ⌜ i < 2048 ⌝ }
+    requires { ⌜ 32 * i + 32 ≤ length (now s) ⌝ }
     ensures { λ r. ⌜ (r ≡ next (now (s .entry)) i) × (r < 65536) ⌝ }
 {
-    get16(s, 32 * i + link_in(i))
+    get16(record_at(s, i), link_in(i))
 }
 
 // ---- the walk along the chain

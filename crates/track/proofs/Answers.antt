@@ -19,7 +19,7 @@ use Rattle.store.specs.Store.{orElse, lastIn}
 use Rattle.store.specs.Walk.{Viewed}
 use Rattle.track.specs.Seen.{spaces, lostSeen, pointSeen}
 use Rattle.octets.proofs.Tests.{by-test, and-split}
-use Rattle.store.proofs.Sounds.{Sound, accepted-sound, sound-greatest, need-zero, or-zero, or-same}
+use Rattle.store.proofs.Sounds.{Sound, accepted-sound, sound-last, sound-greatest, need-zero, or-zero, or-same}
 
 -- ---- making
 pub make-done : (s : List ℕ) (mode role : ℕ) → makeNumber s mode role ≡ 0 → made (length s) mode role ≡ makeResult s mode role
@@ -62,6 +62,13 @@ lost-free s n e =
     let c = need-zero (leb (total s + n) mostIntervals) 16 last (omega arith) (b .1) in
     let d = need-zero (not (isFull s)) 17 0 (omega arith) (c .1) in
     record { accepted = b .0; some = leb-true 1 n (a .0); fits = leb-true (total s + n) 4294967295 (c .0); room = not-full s (b .0) (d .0) }
+
+pub lost-reach : (s : List ℕ) (v : View) (n : ℕ) → Viewed s v → lostNumber s n ≡ 0 → (32 * v .last + 32 ≤ length s) × (32 * (v .greatest + 1) + 32 ≤ length s)
+lost-reach s v n w e =
+    let f = lost-free s n e in
+    let z : v .number ≡ 0 = w .number ∙ f .accepted in
+    let o = accepted-sound s (f .accepted) in
+    (omega (arith, o .whole, sound-last s o, w .last z), omega (arith, o .whole, f .room, w .most z))
 
 pub lost-done : (s : List ℕ) (n : ℕ) → lostNumber s n ≡ 0 → lostAppended s n ≡ lostResult s n
 unfolding lostResult

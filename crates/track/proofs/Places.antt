@@ -1,27 +1,37 @@
 -- A point placed in an accepted store: what an append has to know of the store after it. Assumes nothing.
-use mathlib.Core.Path.{_≡_, refl, sym, ap, _∙_, subst}
+use mathlib.Core.Path.{_≡_, refl, sym, ap, ap₂, _∙_, subst}
 use mathlib.Core.Bool.{Bool, true, false, not, _&&_, cond}
 use mathlib.Core.List.{List, [], _∷_, _++_}
+use mathlib.Core.Logic.{_⊎_, inl, inr}
+use native.Mathlib.Numerals.{add-one}
 use Prim.Native.Nat.{ℕ, zero, suc, _+_, _*_, _-_, _/_, _≤_, _<_}
 use native.Mathlib.Omega.{arith}
 use borrow.Author.Tests.{ne-eqb, lt-ltb, le-ltb, ltb-true, ltb-false}
 use lib.Dec.{eqb, ltb}
-use lib.ListN.{length}
+use lib.ListN.{length, set}
+use lib.Seq.{sets}
 use Rattle.line.specs.declared.Point.{Point}
 use Rattle.octets.specs.Number.{le16, le32}
+use Rattle.octets.proofs.Sets.{sets-swap, sets-over}
 use Rattle.octets.proofs.Tests.{by-test}
 use Rattle.store.specs.declared.View.{View}
+use Rattle.store.specs.Walk.{Viewed}
+use Rattle.track.specs.declared.End.{End}
 use Rattle.store.specs.Chain.{greatest, lastOf}
 use Rattle.store.specs.Layout.{point, count, rec, write, linkIn, totalAt, held, isPoints, pointBytes, pointRecord}
 use Rattle.store.specs.Store.{chain, total, refusal}
 use Rattle.track.specs.Append.{newIndex, hasRoom, pointAppended, pointNumber}
 use Rattle.store.specs.Store.{lastIn}
-use Rattle.store.specs.Walk.{Viewed}
-use Rattle.track.specs.Seen.{spaces}
+use Rattle.track.specs.Seen.{spaces, Ends, placed, nextEnd}
 use Rattle.store.proofs.Chains.{greatest-new, last-snoc}
-use Rattle.store.proofs.Sounds.{accepted-sound, sound-last, sound-greatest}
 use Rattle.track.proofs.Appends.{Appended, GrownLast, point-law, point-linked, point-grown}
 use Rattle.track.proofs.Answers.{PointFree, point-free, room-less}
+
+-- four bytes, one after the other
+pub four-bytes : (l l′ : List ℕ) (i x y z w : ℕ) → l′ ≡ set (set (set (set l i x) (i + 1) y) (i + 2) z) (i + 3) w → l′ ≡ sets l i (x ∷ y ∷ z ∷ w ∷ [])
+four-bytes l l′ i x y z w e =
+    e ∙ ap₂ (λ (m n : ℕ). set (set (set (set l i x) m y) n z) (i + 3) w) (let q : i + 1 ≡ suc i = omega arith in q) (let q : i + 2 ≡ suc (suc i) = omega arith in q)
+    ∙ ap (λ (m : ℕ). set (set (set (set l i x) (suc i) y) (suc (suc i)) z) m w) (let q : i + 3 ≡ suc (suc (suc i)) = omega arith in q)
 
 pub point-appended : (s : List ℕ) (p : Point) → pointNumber s p ≡ 0 → Appended s (pointAppended s p) (point p) 1
 point-appended s p e = let f = point-free s p e in point-law s p (f .accepted) (f .range) (omega (arith, f .fits)) (f .room)
@@ -83,58 +93,130 @@ module _ (s : List ℕ) (p : Point) (e : pointNumber s p ≡ 0) where
   pub spaces-less : spaces s′ + 1 ≡ spaces s
   spaces-less = by-test (hasRoom s (lastIn s)) spaces-grown spaces-linked
 
-  -- the view after it
-  pub viewed-grown : (v : View) → Viewed s v → hasRoom s (v .last) ≡ true
-      → Viewed s′ (record { number = 0; last = v .last; greatest = v .greatest; total = v .total + 1 })
-  viewed-grown v w r =
-      let z : v .number ≡ 0 = w .number ∙ free .accepted in
-      let l : v .last ≡ lastIn s = w .last z in
-      let g = in-last (subst (λ (i : ℕ). hasRoom s i ≡ true) l r) in
+  -- the end after it
+  ends-grown : (t : ℕ) (d : End) → Ends s t d → d .held < 7 → Ends s′ (t + 1) (record { last = d .last; greatest = d .greatest; held = d .held + 1 })
+  ends-grown t d w h =
+      let r : hasRoom s (lastIn s) ≡ true = ap (hasRoom s) (sym (w .last)) ∙ w .room ∙ lt-ltb (d .held) 7 h in
+      let g = in-last r in
+      let k : suc (held (rec s (lastIn s))) ≡ d .held + 1 = ap (λ (i : ℕ). suc (held (rec s i))) (sym (w .last)) ∙ ap suc (sym (w .holds h)) ∙ sym (add-one (d .held)) in
       record {
-        number = sym (done .accepted);
-        last = λ n. l ∙ sym (ap (lastOf 0) (g .chained));
-        most = λ n. w .most z ∙ sym (ap greatest (g .chained));
-        total-is = λ n. omega (arith, done .total-is, w .total-is z);
-        small = (w .small .0, w .small .1, omega (arith, w .total-is z, free .fits));
+        accepted = done .accepted;
+        last = w .last ∙ sym (ap (lastOf 0) (g .chained));
+        most = w .most ∙ sym (ap greatest (g .chained));
+        total-is = omega (arith, done .total-is, w .total-is);
+        small = omega arith;
+        room = ap (hasRoom s′) (w .last) ∙ room-grown r ∙ ap (λ (n : ℕ). ltb n 7) k;
+        holds = λ q. sym (ap (λ (i : ℕ). held (rec s′ i)) (w .last) ∙ g .held-more ∙ k);
       }
 
-  pub viewed-linked : (v : View) → Viewed s v → hasRoom s (v .last) ≡ false
-      → Viewed s′ (record { number = 0; last = v .greatest + 1; greatest = v .greatest + 1; total = v .total + 1 })
-  viewed-linked v w r =
-      let z : v .number ≡ 0 = w .number ∙ free .accepted in
-      let q : hasRoom s (lastIn s) ≡ false = subst (λ (i : ℕ). hasRoom s i ≡ false) (w .last z) r in
-      let m : v .greatest ≡ greatest (chain s) = w .most z in
-      let b : newIndex (chain s) < count s = free .room q in
-      let o = accepted-sound s (free .accepted) in
+  ends-linked : (t : ℕ) (d : End) → Ends s t d → 7 ≤ d .held → Ends s′ (t + 1) (record { last = d .greatest + 1; greatest = d .greatest + 1; held = 1 })
+  ends-linked t d w h =
+      let r : hasRoom s (lastIn s) ≡ false = ap (hasRoom s) (sym (w .last)) ∙ w .room ∙ le-ltb (d .held) 7 h in
+      let m : d .greatest + 1 ≡ newIndex (chain s) = ap (λ (k : ℕ). k + 1) (w .most) in
       record {
-        number = sym (done .accepted);
-        last = λ n. ap (λ (k : ℕ). k + 1) m ∙ sym (new-last q);
-        most = λ n. ap (λ (k : ℕ). k + 1) m ∙ sym (new-greatest q);
-        total-is = λ n. omega (arith, done .total-is, w .total-is z);
-        small = (omega (arith, o .most), omega (arith, o .most), omega (arith, w .total-is z, free .fits));
+        accepted = done .accepted;
+        last = m ∙ sym (new-last r);
+        most = m ∙ sym (new-greatest r);
+        total-is = omega (arith, done .total-is, w .total-is);
+        small = omega arith;
+        room = ap (hasRoom s′) m ∙ room-linked r;
+        holds = λ q. sym (ap (λ (i : ℕ). held (rec s′ i)) m ∙ ap held (in-new r .1));
       }
 
--- the writes, from what is known of the store
-last-writes : (s : List ℕ) (p : Point) (v : View) (k : ℕ) → Viewed s v → v .number ≡ 0 → hasRoom s (v .last) ≡ true → k ≡ held (rec s (v .last))
-    → write (write (write s (v .last) 3 ((k + 1) ∷ [])) (v .last) (4 + 4 * k) (pointBytes p)) 0 totalAt (le32 (v .total + 1)) ≡ pointAppended s p
-unfolding pointAppended
-last-writes s p v k w z r h = rw (← w .last z, ← w .total-is z, r, h)
+  pub ends-next : (t : ℕ) (d : End) → Ends s t d → Ends s′ (t + 1) (nextEnd d)
+  unfolding nextEnd
+  ends-next t d w =
+      by-test (ltb (d .held) 7)
+      (λ b. rw b (ends-grown t d w (ltb-true (d .held) 7 b)))
+      (λ b. rw b (ends-linked t d w (ltb-false (d .held) 7 b)))
 
-new-writes : (s : List ℕ) (p : Point) (v : View) (n : List ℕ) → Viewed s v → v .number ≡ 0 → hasRoom s (v .last) ≡ false → n ≡ pointRecord p
-    → write (write (write s (v .greatest + 1) 0 n) (v .last) (linkIn (v .last)) (le16 (v .greatest + 1))) 0 totalAt (le32 (v .total + 1)) ≡ pointAppended s p
-unfolding pointAppended
-new-writes s p v n w z r h = rw (← w .last z, ← w .most z, ← w .total-is z, r, h)
+  -- the writes, from what is known of the store
+  pub placed-total : (t : ℕ) (d : End) → Ends s t d → write (placed s d p) 0 totalAt (le32 (t + 1)) ≡ pointAppended s p
+  unfolding placed pointAppended
+  placed-total t d w =
+      by-test (ltb (d .held) 7)
+      (λ b. let r : hasRoom s (d .last) ≡ true = w .room ∙ b in rw (b, ← w .last, ← w .total-is, r, w .holds (ltb-true (d .held) 7 b)))
+      (λ b. let r : hasRoom s (d .last) ≡ false = w .room ∙ b in rw (b, ← w .last, ← w .most, ← w .total-is, r))
 
-pub placed-grown : (s s′ : List ℕ) (p : Point) (v : View) (k : ℕ) → Viewed s v → pointNumber s p ≡ 0 → hasRoom s (v .last) ≡ true → k ≡ held (rec s (v .last))
-    → s′ ≡ write (write (write s (v .last) 3 ((k + 1) ∷ [])) (v .last) (4 + 4 * k) (pointBytes p)) 0 totalAt (le32 (v .total + 1))
-    → (s′ ≡ pointAppended s p) × Viewed s′ (record { number = 0; last = v .last; greatest = v .greatest; total = v .total + 1 })
-placed-grown s s′ p v k w e r h q =
-    let u : s′ ≡ pointAppended s p = q ∙ last-writes s p v k w (w .number ∙ point-free s p e .accepted) r h in
-    (u, subst (λ (x : List ℕ). Viewed x (record { number = 0; last = v .last; greatest = v .greatest; total = v .total + 1 })) (sym u) (viewed-grown s p e v w r))
+  pub last-positive : (t : ℕ) (d : End) → Ends s t d → d .held < 7 → 0 < d .last
+  last-positive t d w h =
+      let g = in-last (ap (hasRoom s) (sym (w .last)) ∙ w .room ∙ lt-ltb (d .held) 7 h) in
+      omega (arith, g .positive, w .last)
 
-pub placed-linked : (s s′ : List ℕ) (p : Point) (v : View) (n : List ℕ) → Viewed s v → pointNumber s p ≡ 0 → hasRoom s (v .last) ≡ false → n ≡ pointRecord p
-    → s′ ≡ write (write (write s (v .greatest + 1) 0 n) (v .last) (linkIn (v .last)) (le16 (v .greatest + 1))) 0 totalAt (le32 (v .total + 1))
-    → (s′ ≡ pointAppended s p) × Viewed s′ (record { number = 0; last = v .greatest + 1; greatest = v .greatest + 1; total = v .total + 1 })
-placed-linked s s′ p v n w e r h q =
-    let u : s′ ≡ pointAppended s p = q ∙ new-writes s p v n w (w .number ∙ point-free s p e .accepted) r h in
-    (u, subst (λ (x : List ℕ). Viewed x (record { number = 0; last = v .greatest + 1; greatest = v .greatest + 1; total = v .total + 1 })) (sym u) (viewed-linked s p e v w r))
+  pub new-room : (t : ℕ) (d : End) → Ends s t d → 7 ≤ d .held → d .greatest + 1 < count s
+  new-room t d w h = omega (arith, free .room (ap (hasRoom s) (sym (w .last)) ∙ w .room ∙ le-ltb (d .held) 7 h), w .most)
+
+-- ---- two stores that are alike but for the total
+abbrev pub Apart : List ℕ → List ℕ → Type 0
+Apart s u = (z : List ℕ) → length z ≡ 4 → sets s 8 z ≡ sets u 8 z
+
+apart-write : (s u vs : List ℕ) (a : ℕ) → (a + length vs ≤ 8) ⊎ (12 ≤ a) → Apart s u → Apart (sets s a vs) (sets u a vs)
+apart-write s u vs a (inl h) l z e =
+    sets-swap z vs s a 8 (inl h) ∙ ap (λ (x : List ℕ). sets x a vs) (l z e) ∙ sym (sets-swap z vs u a 8 (inl h))
+apart-write s u vs a (inr h) l z e =
+    let q : 8 + length z ≤ a = omega arith in
+    sets-swap z vs s a 8 (inr q) ∙ ap (λ (x : List ℕ). sets x a vs) (l z e) ∙ sym (sets-swap z vs u a 8 (inr q))
+
+apart-link : (s u vs : List ℕ) (i : ℕ) → length vs ≡ 2 → Apart s u → Apart (write s i (linkIn i) vs) (write u i (linkIn i) vs)
+apart-link s u vs zero e l = apart-write s u vs 6 (inl (omega arith)) l
+apart-link s u vs (suc i) e l = apart-write s u vs (32 * suc i + 0) (inr (omega arith)) l
+
+pub apart-placed : (s u : List ℕ) (d : End) (p : Point) → (d .held < 7 → 0 < d .last) → Apart s u → Apart (placed s d p) (placed u d p)
+unfolding placed
+apart-placed s u d p h l =
+    by-test (ltb (d .held) 7)
+    (λ b. let q : 0 < d .last = h (ltb-true (d .held) 7 b) in
+    rw b (apart-write (write s (d .last) 3 ((d .held + 1) ∷ [])) (write u (d .last) 3 ((d .held + 1) ∷ [])) (pointBytes p) (32 * d .last + (4 + 4 * d .held)) (inr (omega arith))
+    (apart-write s u ((d .held + 1) ∷ []) (32 * d .last + 3) (inr (omega arith)) l)))
+    (λ b. rw b (apart-link (write s (d .greatest + 1) 0 (pointRecord p)) (write u (d .greatest + 1) 0 (pointRecord p)) (le16 (d .greatest + 1)) (d .last) refl
+    (apart-write s u (pointRecord p) (32 * (d .greatest + 1) + 0) (inr (omega arith)) l)))
+
+-- the total is written over the one before it
+pub total-over : (s u : List ℕ) (t : ℕ) → write s 0 totalAt (le32 t) ≡ u → Apart s u × (sets u 8 (le32 t) ≡ u)
+total-over s u t e = (
+  (λ z l. sym (sets-over (le32 t) z s 8 (sym l)) ∙ ap (λ (x : List ℕ). sets x 8 z) e),
+  ap (λ (x : List ℕ). sets x 8 (le32 t)) (sym e) ∙ sets-over (le32 t) (le32 t) s 8 refl ∙ e,
+)
+
+-- ---- the end of a chain
+pub ends-room : (s : List ℕ) (v : View) (k : ℕ) → Viewed s v → hasRoom s (v .last) ≡ true → k ≡ held (rec s (v .last)) → v .number ≡ 0
+    → Ends s (v .total) (record { last = v .last; greatest = v .greatest; held = k })
+ends-room s v k w r h z =
+    let less : k < 7 = omega (arith, h, room-less s (v .last) r) in
+    record {
+      accepted = sym (w .number) ∙ z;
+      last = w .last z;
+      most = w .most z;
+      total-is = w .total-is z;
+      small = omega arith;
+      room = r ∙ sym (lt-ltb k 7 less);
+      holds = λ q. h;
+    }
+
+pub ends-full : (s : List ℕ) (v : View) → Viewed s v → hasRoom s (v .last) ≡ false → v .number ≡ 0
+    → Ends s (v .total) (record { last = v .last; greatest = v .greatest; held = 7 })
+ends-full s v w r z =
+    record {
+      accepted = sym (w .number) ∙ z;
+      last = w .last z;
+      most = w .most z;
+      total-is = w .total-is z;
+      small = omega arith;
+      room = r;
+      holds = λ q. absurd (omega arith);
+    }
+
+-- what is written at it
+pub placed-grown : (s s′ : List ℕ) (d : End) (p : Point) → d .held < 7
+    → s′ ≡ write (write s (d .last) 3 ((d .held + 1) ∷ [])) (d .last) (4 + 4 * d .held) (pointBytes p)
+    → (s′ ≡ placed s d p) × (_≡_ {A = End} (record { last = d .last; greatest = d .greatest; held = d .held + 1 }) (nextEnd d))
+unfolding placed nextEnd
+placed-grown s s′ d p h e = (rw (lt-ltb (d .held) 7 h) e, rw (lt-ltb (d .held) 7 h))
+
+pub placed-linked : (s s′ r : List ℕ) (d : End) (p : Point) → 7 ≤ d .held → r ≡ pointRecord p
+    → s′ ≡ write (write s (d .greatest + 1) 0 r) (d .last) (linkIn (d .last)) (le16 (d .greatest + 1))
+    → (s′ ≡ placed s d p) × (_≡_ {A = End} (record { last = d .greatest + 1; greatest = d .greatest + 1; held = 1 }) (nextEnd d))
+unfolding placed nextEnd
+placed-linked s s′ r d p h q e =
+    let l : ltb (d .held) 7 ≡ false = le-ltb (d .held) 7 h in
+    (rw l (e ∙ ap (λ (x : List ℕ). write (write s (d .greatest + 1) 0 x) (d .last) (linkIn (d .last)) (le16 (d .greatest + 1))) q), rw l)

@@ -4,15 +4,16 @@ use line::mode_ok;
 use line::role_ok;
 use octets::clear;
 use octets::get8;
+use octets::lesser;
 use octets::pattern_of;
 use octets::put_all;
-use octets::put_i16;
 use octets::put8;
 use octets::put16;
 use octets::put32;
 use store::MARK;
 use store::TOTAL_AT;
 use store::View;
+use store::coordinate_ok;
 use store::inspect;
 use store::link_in;
 use store::need;
@@ -28,9 +29,9 @@ ghost use Rattle.line.specs.Point.{at};
 ghost use Rattle.octets.specs.Number.{le16, le32};
 ghost use Rattle.store.specs.Layout.{rec, write, linkIn, totalAt, held, lostRecord, pointBytes, pointRecord};
 ghost use Rattle.store.specs.Walk.{Viewed};
-ghost use Rattle.track.specs.Append.{made, makeNumber, makeResult, lostNumber, lostResult, hasRoom, pointNumber, pointAppended, pointResult};
+ghost use Rattle.track.specs.Append.{made, makeNumber, makeResult, lostNumber, lostResult, hasRoom, pointNumber, pointResult};
 ghost use Rattle.track.specs.Points.{pairs, eachNumber, eachResult, pointsNumber, pointsResult};
-ghost use Rattle.track.specs.Seen.{spaces, pointSeen, lostSeen, seenNumber};
+ghost use Rattle.track.specs.Seen.{spaces, pointSeen, lostSeen, seenNumber, firstIn, fit, Ends, Reach, placed, nextEnd};
 
 const MOST_INTERVALS: usize = 4294967295;
 
@@ -91,26 +92,41 @@ fn point_record(re: i16, im: i16) -> [u8; 32]
     bytes
 }
 
-// The new record `r` at index `new`, its link in the chain's last record, and the total.
-fn link(store: &mut [u8], last: usize, new: usize, r: &[u8], total: usize)
-    requires { ⌜ (last < 2048) × (new ≤ 2048) ⌝ }
-    ensures { λ _. ⌜ now (store .exit) ≡ write (write (write (now (store .entry)) new 0 (now (r .entry))) last (linkIn last) (le16 new)) 0 totalAt (le32 total) ⌝ }
+// The 32 bytes `r` as record i.
+fn put_record(store: &mut [u8], i: usize, r: &[u8])
+    requires { ⌜ (32 * i + 32 ≤ length (now store)) × (length (now r) ≡ 32) ⌝ }
+    ensures { λ _. ⌜ now (store .exit) ≡ write (now (store .entry)) i 0 (now (r .entry)) ⌝ }
 {
-    put_all(store, 32 * new, r);
-    put16(store, 32 * last + link_in(last), new);
-    put32(store, TOTAL_AT, total);
+    let at = 32 * i;
+    let mut k = 0;
+    while k < 32 {
+        store[at + k] = r[k];
+        k += 1;
+    }
 }
 
-// One point more in record i, which holds k, and the total.
-fn grow(store: &mut [u8], i: usize, k: usize, re: i16, im: i16, total: usize)
-    requires { ⌜ (i < 2048) × (k < 7) ⌝ }
-    ensures { λ _. ⌜ now (store .exit) ≡ write (write (write (now (store .entry)) i 3 ((k + 1) ∷ [])) i (4 + 4 * k) (pointBytes (at re im))) 0 totalAt (le32 total) ⌝ }
+// The new record `r` at index `new`, and its link in the chain's last record.
+fn link(store: &mut [u8], last: usize, new: usize, r: &[u8])
+    requires { ⌜ (32 * last + 32 ≤ length (now store)) × (32 * new + 32 ≤ length (now store)) × (length (now r) ≡ 32) ⌝ }
+    ensures { λ _. ⌜ now (store .exit) ≡ write (write (now (store .entry)) new 0 (now (r .entry))) last (linkIn last) (le16 new) ⌝ }
 {
+    put_record(store, new, r);
+    put16(store, 32 * last + link_in(last), new);
+}
+
+// One point more in record i, which holds k.
+fn grow(store: &mut [u8], i: usize, k: usize, re: i16, im: i16)
+    requires { ⌜ (32 * i + 32 ≤ length (now store)) × (k < 7) ⌝ }
+    ensures { λ _. ⌜ now (store .exit) ≡ write (write (now (store .entry)) i 3 ((k + 1) ∷ [])) i (4 + 4 * k) (pointBytes (at re im)) ⌝ }
+{
+    let a = pattern_of(re);
+    let b = pattern_of(im);
     let at = 32 * i + (4 + 4 * k);
-    put8(store, 32 * i + 3, (k + 1) as u8);
-    put_i16(store, at, re);
-    put_i16(store, at + 2, im);
-    put32(store, TOTAL_AT, total);
+    store[32 * i + 3] = (k + 1) as u8;
+    store[at] = (a % 256) as u8;
+    store[at + 1] = (a / 256 % 256) as u8;
+    store[at + 2] = (b % 256) as u8;
+    store[at + 3] = (b / 256 % 256) as u8;
 }
 
 // How many points record i holds.
@@ -184,61 +200,65 @@ pub fn append_lost(store: &mut [u8], n: u32) -> u8
     let full = v.greatest + 1 == store.len() / 32;
     let number = lost_number(v.number, v.total, full, lost);
     if number == 0 {
-        link(
-            store,
-            v.last,
-            v.greatest + 1,
-            &lost_record(lost),
-            v.total + lost,
-        );
+        link(store, v.last, v.greatest + 1, &lost_record(lost));
+        put32(store, TOTAL_AT, v.total + lost);
     }
     number
 }
 
-// Appends a point that nothing refuses to the store that `v` shows; what an append has to know of it after that.
-fn place_point(store: &mut [u8], v: View, re: i16, im: i16) -> View
-    requires { ⌜ Viewed (now store) v × (pointNumber (now store) (at re im) ≡ 0) ⌝ }
-    ensures { λ w. ⌜ (now (store .exit) ≡ pointAppended (now (store .entry)) (at re im)) × Viewed (now (store .exit)) w ⌝ }
+// The end of a chain: its last and its greatest index, and how many points the last record holds, 7 where it has no room for
+// one.
+struct End {
+    last: usize,
+    greatest: usize,
+    held: usize,
+}
+
+// The end of the chain that `v` shows.
+fn end_of(s: &[u8], v: View) -> End
+    requires { ⌜ Viewed (now s) v ⌝ }
+    ensures { λ e. ⌜ (v .number ≡ 0 → Ends (now (s .entry)) (v .total) e) ⌝ }
 {
     let last = v.last;
-    let total = v.total + 1;
-    if has_room(store, last) {
-        let k = held_in(store, last);
-        grow(store, last, k, re, im, total);
-        return View {
-            number: 0,
+    let mut held = 7;
+    if has_room(s, last) {
+        held = held_in(s, last);
+    }
+    End {
+        last,
+        greatest: v.greatest,
+        held,
+    }
+}
+
+// A point at the end of the chain, without the total; the end after it.
+fn place_point(store: &mut [u8], e: End, re: i16, im: i16) -> End
+    requires { ⌜ Reach (length (now store)) e ⌝ }
+    ensures { λ r. ⌜ (now (store .exit) ≡ placed (now (store .entry)) e (at re im)) × (r ≡ nextEnd e) ⌝ }
+{
+    let last = e.last;
+    let held = e.held;
+    if held < 7 {
+        grow(store, last, held, re, im);
+        return End {
             last,
-            greatest: v.greatest,
-            total,
+            greatest: e.greatest,
+            held: held + 1,
         };
     }
-    let new = v.greatest + 1;
-    link(store, last, new, &point_record(re, im), total);
-    View {
-        number: 0,
+    let new = e.greatest + 1;
+    link(store, last, new, &point_record(re, im));
+    End {
         last: new,
         greatest: new,
-        total,
+        held: 1,
     }
 }
 
-// Appends a point: 0, or the number that refuses it.
-pub fn append_point(store: &mut [u8], re: i16, im: i16) -> u8
-    ensures { λ r. ⌜ (r ≡ pointNumber (now (store .entry)) (at re im)) × (now (store .exit) ≡ pointResult (now (store .entry)) (at re im)) ⌝ }
-{
-    let v = inspect(store);
-    let room = room_for(store, v);
-    let number = point_number(v.number, v.total, room, re, im);
-    if number == 0 {
-        place_point(store, v, re, im);
-    }
-    number
-}
+// ---- points
 
-// ---- many points by one call
-
-// The number of the first point that is refused, or 0.
-fn points_number(number: u8, total: usize, room: usize, points: &[i16]) -> u8
+// The number of the first point that is refused, or 0, point by point.
+fn each_number(number: u8, total: usize, room: usize, points: &[i16]) -> u8
     requires { ⌜ total ≤ 4294967295 ⌝ }
     ensures { λ r. ⌜ r ≡ seenNumber number total room (pairs (now (points .entry))) ⌝ }
 {
@@ -257,17 +277,61 @@ fn points_number(number: u8, total: usize, room: usize, points: &[i16]) -> u8
     0
 }
 
-// Appends points that nothing refuses to the store that `v` shows.
+// Whether the first n points are in range. Every one is looked at, so that many are compared at once.
+fn points_in_range(points: &[i16], n: usize) -> bool
+    requires { ⌜ 2 * n ≤ length (now points) ⌝ }
+    ensures { λ b. ⌜ b ≡ firstIn n (pairs (now (points .entry))) ⌝ }
+{
+    let mut fine = true;
+    let mut k = 0;
+    while k < n {
+        fine = fine & (coordinate_ok(points[2 * k]) & coordinate_ok(points[2 * k + 1]));
+        k += 1;
+    }
+    fine
+}
+
+// How many of n points only number 8 can refuse.
+fn fitting(number: u8, total: usize, room: usize, n: usize) -> usize
+    requires { ⌜ total ≤ 4294967295 ⌝ }
+    ensures { λ r. ⌜ (r ≡ fit number total room n) × (r ≤ n) × (r ≤ room) × (total + r ≤ 4294967295) ⌝ }
+{
+    if number == 0 {
+        return lesser(n, lesser(room, MOST_INTERVALS - total));
+    }
+    0
+}
+
+// The number of the first point that is refused, or 0: those that fit at once, then what is left.
+fn points_number(number: u8, total: usize, room: usize, points: &[i16]) -> u8
+    requires { ⌜ total ≤ 4294967295 ⌝ }
+    ensures { λ r. ⌜ r ≡ seenNumber number total room (pairs (now (points .entry))) ⌝ }
+{
+    let n = fitting(number, total, room, points.len() / 2);
+    if points_in_range(points, n) {
+        let from = 2 * n;
+        return each_number(number, total + n, room - n, &points[from..]);
+    }
+    8
+}
+
+// Appends points that nothing refuses to the store that `v` shows. The total is written once, after them.
 fn place_points(store: &mut [u8], v: View, points: &[i16])
     requires { ⌜ Viewed (now store) v × (eachNumber (now store) (pairs (now points)) ≡ 0) ⌝ }
     ensures { λ _. ⌜ now (store .exit) ≡ eachResult (now (store .entry)) (pairs (now (points .entry))) ⌝ }
 {
-    let mut w = v;
+    if points.len() < 2 {
+        return;
+    }
+    let mut e = end_of(store, v);
+    let mut total = v.total;
     let mut k = 0;
     while k + 1 < points.len() {
-        w = place_point(store, w, points[k], points[k + 1]);
+        e = place_point(store, e, points[k], points[k + 1]);
+        total += 1;
         k += 2;
     }
+    put32(store, TOTAL_AT, total);
 }
 
 // Appends points, re and im in turn, all or none: 0, or the number that refuses the first refused one. The store is walked
@@ -285,4 +349,12 @@ pub fn append_points(store: &mut [u8], points: &[i16]) -> u8
         place_points(store, v, points);
     }
     number
+}
+
+// Appends a point: 0, or the number that refuses it.
+pub fn append_point(store: &mut [u8], re: i16, im: i16) -> u8
+    ensures { λ r. ⌜ (r ≡ pointNumber (now (store .entry)) (at re im)) × (now (store .exit) ≡ pointResult (now (store .entry)) (at re im)) ⌝ }
+{
+    let points = [re, im];
+    append_points(store, &points)
 }

@@ -1,11 +1,10 @@
-use Rattle.octets.proofs.Loops.{zeros-found, zeros-step, zeros-end}
-use Prim.Native.Nat.{ℕ, _≤_, _<_, _-_}
-use mathlib.Core.Path.{_≡_, refl, sym, ap, _∙_}
+use denote.Ref.{now}
+use Rattle.octets.proofs.Loops.{zeros-step, zeros-end}
+use Prim.Native.Nat.{_-_}
+use mathlib.Core.Bool.{_&&_}
+use mathlib.Core.Path.{_≡_, refl}
 use native.Mathlib.Omega.{arith}
-use native.Mathlib.Numerals.{add-one}
-use lib.ListN.{length, drop, drop-of-length-le}
-use lib.Seq.{drop-cons}
-use borrow.Author.Tests.{eq-eqb, ne-eqb}
+use lib.ListN.{length, drop}
 use Rattle.octets.specs.Number.{zeros}
 use Rattle.octets.proofs.zero_from.Statement.{statement}
 use Rattle.octets.proofs.zero_from.Tie as tie
@@ -13,19 +12,16 @@ use Rattle.octets.proofs.zero_from.Reads as reads
 use Rattle.octets.proofs.zero_from.Lts as lts
 
 abbrev Inv-loop : tie.InvT-loop
-Inv-loop r at i₀ i = zeros (drop at r) ≡ zeros (drop i r)
+Inv-loop s at clear₀ i₀ clear i = zeros (drop at s) ≡ (clear && zeros (drop i s))
 
 abbrev μ-loop : tie.MeasureT-loop
-μ-loop r at i₀ i = length r - i
+μ-loop s at clear₀ i₀ clear i = length s - i
 
 loop-holds : tie.Need-loop-holds Inv-loop μ-loop
 loop-holds c = refl
 
-shared-slice-read-if1 : tie.Need-shared-slice-read-if1 Inv-loop μ-loop
-shared-slice-read-if1 c = omega arith
-
-returns : tie.Need-returns Inv-loop μ-loop
-returns c = sym (c .before .before .before .loop .inv ∙ zeros-found _ _ (c .before .before .loop-test .taken) (c .if1 .taken))
+shared-slice-read-clear : tie.Need-shared-slice-read-clear Inv-loop μ-loop
+shared-slice-read-clear c = omega arith
 
 add-i : tie.Need-add-i Inv-loop μ-loop
 add-i c = omega arith
@@ -34,10 +30,10 @@ loop-less : tie.Need-loop-less Inv-loop μ-loop
 loop-less c = omega arith
 
 loop-again : tie.Need-loop-again Inv-loop μ-loop
-loop-again c = c .before .before .before .loop .inv ∙ zeros-step _ _ (c .before .before .loop-test .taken) (c .if1 .left)
+loop-again c = let l = c .before .before .loop in zeros-step (now (c .before .before .before .args .s)) (l .i) _ (l .clear) (c .before .loop-test .taken) (l .inv)
 
-returns-2 : tie.Need-returns-2 Inv-loop μ-loop
-returns-2 c = sym (c .before .loop .inv ∙ zeros-end _ _ (c .loop-test .left))
+returns : tie.Need-returns Inv-loop μ-loop
+returns c = zeros-end _ _ _ _ (c .loop-test .left) (c .before .loop .inv)
 
 pub zero-from-spec : {M : Type 1} → statement M
 zero-from-spec =
@@ -46,9 +42,8 @@ zero-from-spec =
     Inv-loop
     μ-loop
     loop-holds
-    shared-slice-read-if1
-    returns
+    shared-slice-read-clear
     add-i
     loop-less
     loop-again
-    returns-2)
+    returns)

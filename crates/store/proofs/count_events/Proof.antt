@@ -1,3 +1,4 @@
+use Rattle.store.proofs.Sounds.{accepted-sound}
 use mathlib.Core.Path.{_≡_, refl, sym, ap, _∙_}
 use Prim.Native.Nat.{ℕ}
 use mathlib.Core.List.{List}
@@ -24,7 +25,7 @@ abbrev μ-loop : tie.MeasureT-loop
 μ-loop s n₀ k₀ i₀ n k i = count s - k
 
 next-of-requires : tie.Need-next-of-requires Inv-loop μ-loop
-next-of-requires c κs = omega arith
+next-of-requires c κs = let o = accepted-sound _ (c .before .pre) in omega (arith, o .whole, o .least)
 
 loop-holds : tie.Need-loop-holds Inv-loop μ-loop
 loop-holds c = counting-start _ _ (c .before .before .pre) (c .next-of .ensures .0)
@@ -48,7 +49,7 @@ next-of-requires-2 : tie.Need-next-of-requires-2 Inv-loop μ-loop
 next-of-requires-2 c κs =
     let g = c .before .before .before .loop .inv .along in
     let n = along-in _ _ _ g (c .before .before .loop-test .taken) in
-    omega (arith, n .0, g .size .most)
+    omega (arith, n .0, g .size .whole)
 
 loop-less : tie.Need-loop-less Inv-loop μ-loop
 loop-less c = let n = along-in _ _ _ (c .before .before .before .before .loop .inv .along) (c .before .before .before .loop-test .taken) in omega (arith, n .1)

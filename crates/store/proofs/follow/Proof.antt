@@ -35,7 +35,7 @@ add-k : tie.Need-add-k Inv-loop μ-loop
 add-k c = omega arith
 
 next-of-requires-2 : tie.Need-next-of-requires-2 Inv-loop μ-loop
-next-of-requires-2 c κs = let g = c .before .before .before .before .loop .inv in omega (arith, g .size .whole, g .size .most, g .counted, c .before .before .if1 .left)
+next-of-requires-2 c κs = let g = c .before .before .before .before .loop .inv in omega (arith, g .size .whole, g .counted, c .before .before .if1 .left)
 
 loop-less : tie.Need-loop-less Inv-loop μ-loop
 loop-less c = omega arith

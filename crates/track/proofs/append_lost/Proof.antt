@@ -1,12 +1,20 @@
-use denote.Ref.{now}
 use mathlib.Core.Path.{_≡_, refl, sym, ap, _∙_}
+use denote.Ref.{now}
+use native.Mathlib.Omega.{arith}
+use Prim.Native.Nat.{_+_}
+use mathlib.Core.List.{List}
+use Prim.Native.Nat.{ℕ}
+use lib.ListN.{length}
+use lib.Seq.{sets}
+use Rattle.octets.specs.Number.{le32}
 use Rattle.track.specs.Append.{lostNumber}
-use Rattle.track.proofs.Answers.{lost-seen, lost-linked, lost-kept}
+use Rattle.track.proofs.Answers.{lost-seen, lost-reach, lost-linked, lost-kept}
 use borrow.Author.Needs.{needs}
 use Rattle.track.proofs.append_lost.Statement.{statement}
 use Rattle.track.proofs.append_lost.Tie as tie
 use Rattle.track.proofs.append_lost.Reads as reads
 use Rattle.track.proofs.append_lost.Lts as lts
+use Rattle.octets.proofs.put32.Reads as put32-reads
 use Rattle.store.proofs.inspect.Reads as inspect-reads
 use Rattle.track.proofs.link.Reads as link-reads
 use Rattle.track.proofs.lost_number.Reads as lost-number-reads
@@ -30,22 +38,32 @@ lost-record-requires c κs = search needs
 slice-aggregate-link : tie.Need-slice-aggregate-link
 slice-aggregate-link c = search needs
 
-add-link-2 : tie.Need-add-link-2
-add-link-2 c = search needs
-
 link-requires : tie.Need-link-requires
-link-requires c κs = search needs
+link-requires c κs =
+    let a = c .before .before .before .before .before .before .before .before .before .before .args in
+    let v = c .before .before .before .before .before .before .before .inspect in
+    let n : c .before .before .before .before .before .lost-number .result ≡ lostNumber (now (a .store)) (a .n) = c .before .before .before .before .before .lost-number .ensures ∙ lost-seen (now (a .store)) (v .result) _ (a .n) (v .ensures) refl in
+    let f = lost-reach (now (a .store)) (v .result) (a .n) (v .ensures) (sym n ∙ c .before .before .before .before .if1 .taken) in
+    (f .0, f .1, ap length (c .before .lost-record .ensures))
+
+add-put32 : tie.Need-add-put32
+add-put32 c = search needs
+
+put32-requires : tie.Need-put32-requires
+put32-requires c κs = search needs
 
 same-length : tie.Need-same-length
 same-length c = search needs
 
 returns : tie.Need-returns
 returns c =
-    let a = c .before .before .before .before .before .before .before .before .before .before .before .before .before .before .args in
-    let v = c .before .before .before .before .before .before .before .before .before .before .before .inspect in
-    let n : c .before .before .before .before .before .before .before .before .before .lost-number .result ≡ lostNumber (now (a .store)) (a .n) =
-    c .before .before .before .before .before .before .before .before .before .lost-number .ensures ∙ lost-seen (now (a .store)) (v .result) _ (a .n) (v .ensures) refl in
-    (n, c .before .before .link .ensures ∙ lost-linked (now (a .store)) (v .result) _ (a .n) (v .ensures) (sym n ∙ c .before .before .before .before .before .before .before .before .if1 .taken) (c .before .before .before .before .before .lost-record .ensures))
+    let a = c .before .before .before .before .before .before .before .before .before .before .before .before .before .before .before .before .before .before .args in
+    let v = c .before .before .before .before .before .before .before .before .before .before .before .before .before .before .before .inspect in
+    let n : c .before .before .before .before .before .before .before .before .before .before .before .before .before .lost-number .result ≡ lostNumber (now (a .store)) (a .n) = c .before .before .before .before .before .before .before .before .before .before .before .before .before .lost-number .ensures ∙ lost-seen (now (a .store)) (v .result) _ (a .n) (v .ensures) refl in (
+      n,
+      c .before .before .put32 .ensures ∙ ap (λ (x : List ℕ). sets x 8 (le32 (v .result .total + a .n))) (c .before .before .before .before .before .before .before .link .ensures)
+          ∙ lost-linked (now (a .store)) (v .result) _ (a .n) (v .ensures) (sym n ∙ c .before .before .before .before .before .before .before .before .before .before .before .before .if1 .taken) (c .before .before .before .before .before .before .before .before .before .lost-record .ensures),
+    )
 
 same-length-2 : tie.Need-same-length-2
 same-length-2 c = search needs
@@ -54,8 +72,7 @@ returns-2 : tie.Need-returns-2
 returns-2 c =
     let a = c .before .before .before .before .before .before .args in
     let v = c .before .before .before .inspect in
-    let n : c .before .lost-number .result ≡ lostNumber (now (a .store)) (a .n) =
-    c .before .lost-number .ensures ∙ lost-seen (now (a .store)) (v .result) _ (a .n) (v .ensures) refl in
+    let n : c .before .lost-number .result ≡ lostNumber (now (a .store)) (a .n) = c .before .lost-number .ensures ∙ lost-seen (now (a .store)) (v .result) _ (a .n) (v .ensures) refl in
     (n, lost-kept (now (a .store)) (a .n) (λ e. c .if1 .left (n ∙ e)))
 
 pub append-lost-spec : {M : Type 1} → statement M
@@ -68,8 +85,9 @@ append-lost-spec =
     add-link
     lost-record-requires
     slice-aggregate-link
-    add-link-2
     link-requires
+    add-put32
+    put32-requires
     same-length
     returns
     same-length-2
