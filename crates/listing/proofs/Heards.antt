@@ -1,14 +1,13 @@
 -- No event of an accepted store is refused: its points are in range, its lost counts at least 1, and their sum is the total, which
 -- four bytes hold. That a point in range lies in a sector is the one premise. Assumes nothing.
-use mathlib.Core.Path.{_≡_, refl, sym, ap, ap₂, _∙_, subst}
-use mathlib.Core.Bool.{Bool, true, false, _&&_, cond}
+use mathlib.Core.Path.{_≡_, refl, ap, _∙_}
+use mathlib.Core.Bool.{Bool, true, false, _&&_}
 use mathlib.Core.List.{List, [], _∷_, _++_}
-use Prim.Native.Nat.{ℕ, zero, suc, _+_, _*_, _-_, _≤_, _<_}
+use Prim.Native.Nat.{ℕ, zero, suc, _+_, _≤_}
 use native.Mathlib.Omega.{arith}
 use borrow.Author.Tests.{leb-true, le-leb}
 use lib.Dec.{T, leb, eqb}
 use lib.ListN.{getD, drop}
-use Rattle.line.specs.declared.Point.{Point}
 use Rattle.line.specs.declared.Decision.{Decision}
 use Rattle.line.specs.declared.Decision.the-variants.{State, Origin, NoSector}
 use Rattle.line.specs.Mode.{isMode, isRole}
@@ -19,16 +18,16 @@ use Rattle.line.proofs.RefusalLaws.{need-intro}
 use Rattle.octets.specs.Number.{u32, zeros}
 use Rattle.octets.proofs.Tests.{by-test, and-split}
 use Rattle.receiver.specs.declared.Receiver.{Receiver}
-use Rattle.receiver.specs.Receiver.{freshReceiver, isFresh, fieldsOk, inSector, hasRoom, intervals, stateRefusal, placeAfter, next}
+use Rattle.receiver.specs.Receiver.{freshReceiver, isFresh, fieldsOk, inSector, hasRoom, intervals, placeAfter, next}
 use Rattle.receiver.specs.Receiver.{refusal as eventRefused, eventRefusal as eventNeeds, gap, point as hears}
 use Rattle.receiver.proofs.OutcomeLaws.{next-placed}
 use Rattle.receiver.proofs.CallLaws.{Valid, no-refusal, next-valid}
 use Rattle.store.specs.Chain.{gather, sumOver}
 use Rattle.store.specs.Layout.{Event, point, lost, rec, held, isPoints, pointAt, points, pointsOk, kind, recordOk, spanOf, eventsOf}
-use Rattle.store.specs.Store.{chain, events, total, hasMark, headOk, refusal}
+use Rattle.store.specs.Store.{chain, events, total, hasMark, headOk}
 use Rattle.store.proofs.Chains.{All}
 use Rattle.store.proofs.Records.{total-at}
-use Rattle.store.proofs.Sounds.{Sound, accepted-sound}
+use Rattle.store.proofs.Sounds.{accepted-sound}
 use Rattle.listing.specs.Text.{taken, modeIn, roleIn}
 use Rattle.listing.specs.Heard.{AllTaken, AreBytes, InSectors, NoneRefused}
 

@@ -1,11 +1,11 @@
 -- No listing is longer than `longest`. Assumes nothing.
-use mathlib.Core.Path.{_≡_, refl, sym, ap, ap₂, _∙_, subst}
-use mathlib.Core.Bool.{Bool, true, false, _&&_, cond}
+use mathlib.Core.Path.{_≡_, refl, ap}
+use mathlib.Core.Bool.{true, false, _&&_}
 use mathlib.Core.List.{List, [], _∷_, _++_, map}
-use Prim.Native.Nat.{ℕ, zero, suc, _+_, _*_, _-_, _≤_, _<_}
+use Prim.Native.Nat.{ℕ, zero, suc, _+_, _*_, _≤_, _<_}
 use native.Mathlib.Omega.{arith}
-use borrow.Author.Tests.{leb-true, ltb-true, lt-ltb}
-use lib.Dec.{leb, ltb, eqb}
+use borrow.Author.Tests.{leb-true, ltb-true}
+use lib.Dec.{leb}
 use lib.ListN.{length, getD, drop, length-append}
 use Rattle.line.specs.declared.Point.{Point}
 use Rattle.line.specs.declared.Decision.{Decision}
@@ -17,7 +17,6 @@ use Rattle.line.specs.Refusal.{accepted}
 use Rattle.line.proofs.ByMode.{by-all, width-range}
 use Rattle.octets.specs.Number.{u32, zeros}
 use Rattle.octets.proofs.Tests.{by-test, and-split}
-use Rattle.scrambler.specs.Bits.{bits}
 use Rattle.scrambler.specs.Scramble.{Datum, descramble}
 use Rattle.scrambler.proofs.BitLaws.{length-bits}
 use Rattle.scrambler.proofs.GroupLaws.{length-descramble}
@@ -31,8 +30,8 @@ use Rattle.store.specs.Layout.{Event, point, lost, count, rec, held, isPoints, 
 use Rattle.store.specs.Layout.{next as nextIn}
 use Rattle.store.specs.Store.{chain, events, total, headOk, hasMark, refusal}
 use Rattle.store.proofs.Chains.{All, run-short}
-use Rattle.store.proofs.Sounds.{Sound, accepted-sound}
-use Rattle.listing.specs.Text.{digits, decimal, glyphs, lineGlyphs, bitsAre, blank, lineEnd, kindText, lineText, taken, lines, through, firstLine, chainText, refusedLine, modeIn, roleIn, text, longest}
+use Rattle.store.proofs.Sounds.{accepted-sound}
+use Rattle.listing.specs.Text.{decimal, glyphs, lineGlyphs, bitsAre, blank, kindText, lineText, lines, through, firstLine, chainText, refusedLine, modeIn, roleIn, text, longest}
 use Rattle.listing.proofs.Digits.{decimal-long, decimal-one}
 use Rattle.listing.proofs.Lines.{lines-append}
 

@@ -4,3 +4,4 @@ pub mod Lines
 pub mod Lengths
 pub mod Texts
 pub mod Heards
+pub mod Example

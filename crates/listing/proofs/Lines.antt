@@ -1,7 +1,7 @@
 -- The lines of events, written one after the other. Assumes nothing.
-use mathlib.Core.Path.{_≡_, refl, sym, ap, ap₂, _∙_}
+use mathlib.Core.Path.{_≡_, refl, sym, ap, _∙_}
 use mathlib.Core.List.{List, [], _∷_, _++_, append-assoc, append-nil}
-use Prim.Native.Nat.{ℕ, zero, suc, _+_, _*_, _-_, _≤_, _<_}
+use Prim.Native.Nat.{ℕ, _+_, _*_, _-_, _≤_}
 use native.Mathlib.Omega.{arith}
 use native.Mathlib.Nat.{sub-zero}
 use lib.IntN.{ℤ}
@@ -18,12 +18,12 @@ use Rattle.receiver.specs.Receiver.{gap, point as hears}
 use Rattle.receiver.specs.Outcome.{answerOf, stateOf, Told}
 use Rattle.store.specs.Layout.{Event, point, lost, rec, linkIn, next, kind, held, points, eventsOf}
 use Rattle.store.specs.Store.{events, refusal}
-use Rattle.store.proofs.Readings.{Along, along-start, along-step, left, left-start, left-step, left-end, points-next, of-points, of-lost}
+use Rattle.store.proofs.Readings.{Along, along-start, along-step, left, left-start, left-step, left-end, of-points, of-lost}
 use Rattle.store.proofs.Records.{next-at, link-later}
 use Rattle.listing.specs.declared.Progress.{Progress}
 use Rattle.listing.specs.Text.{taken, lineText, lines, through}
 use Rattle.listing.specs.Wrote.{Wrote, Went}
-use Rattle.listing.proofs.Writes.{wrote-then, wrote-as}
+use Rattle.listing.proofs.Writes.{wrote-as}
 
 pub lines-append : (s : Receiver) (xs ys : List Event) → lines s (xs ++ ys) ≡ lines s xs ++ lines (through s xs) ys
 lines-append s [] ys = refl

@@ -1,18 +1,17 @@
 -- The pieces of a listing make its text. Assumes nothing.
-use mathlib.Core.Path.{_≡_, refl, sym, ap, ap₂, _∙_}
+use mathlib.Core.Path.{_≡_, refl, sym, ap, _∙_}
 use mathlib.Core.Bool.{Bool, true, false, _&&_}
-use mathlib.Core.List.{List, [], _∷_, _++_}
+use mathlib.Core.List.{List, [], _++_}
 use Prim.Native.Nat.{ℕ, zero, suc, _+_, _≤_, _<_}
 use native.Mathlib.Omega.{arith}
 use native.Mathlib.Nat.{zero-add}
 use borrow.Author.Tests.{le-leb, lt-leb}
 use lib.Dec.{leb}
 use lib.ListN.{length, getD, take, drop, length-append}
-use lib.Seq.{sets, sets-eq, take-at}
+use lib.Seq.{sets-eq, take-at}
 use Rattle.line.specs.Refusal.{need, accepted}
 use Rattle.receiver.specs.declared.Receiver.{Receiver}
 use Rattle.receiver.specs.Receiver.{freshReceiver}
-use Rattle.store.specs.Layout.{rec}
 use Rattle.store.specs.Store.{events, total, sizeOk, refusal}
 use Rattle.store.proofs.Records.{rec-byte}
 use Rattle.listing.specs.Text.{lines, firstLine, chainText, refusedLine, modeIn, roleIn, text, longest, listNumber, listCount, listResult}

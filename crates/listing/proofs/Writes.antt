@@ -1,22 +1,22 @@
 -- Runs of bytes written one after the other, and the glyphs of a group of bits. Assumes nothing.
 use mathlib.Core.Path.{_≡_, refl, sym, ap, ap₂, _∙_}
-use mathlib.Core.Bool.{Bool, true, false, cond}
-use mathlib.Core.List.{List, [], _∷_, _++_, map}
-use Prim.Native.Nat.{ℕ, zero, suc, _+_, _*_, _-_, _/_, _%_, _^_, _≤_, _<_}
+use mathlib.Core.Bool.{true, false, cond}
+use mathlib.Core.List.{List, [], _∷_, _++_}
+use Prim.Native.Nat.{ℕ, zero, suc, _+_, _-_, _/_, _%_, _^_, _≤_, _<_}
 use native.Mathlib.Omega.{arith}
-use native.Mathlib.Nat.{add-zero, sub-zero}
-use borrow.Author.Tests.{lt-ltb, le-ltb, ltb-true, ltb-false}
+use native.Mathlib.Nat.{sub-zero}
+use borrow.Author.Tests.{ltb-true, ltb-false}
 use lib.Dec.{ltb}
-use lib.ListN.{length, set, length-append}
+use lib.ListN.{length, length-append}
 use lib.Seq.{sets}
 use Rattle.line.proofs.Tests.{cond-true, cond-false}
 use Rattle.octets.proofs.Tests.{by-test}
 use Rattle.octets.proofs.Sets.{sets-then}
 use Rattle.scrambler.specs.Bits.{bits}
-use Rattle.scrambler.specs.Scramble.{Datum, unsettled, settled}
+use Rattle.scrambler.specs.Scramble.{unsettled, settled}
 use Rattle.scrambler.specs.Group.{marked}
 use Rattle.scrambler.proofs.BitLaws.{length-bits}
-use Rattle.listing.specs.Text.{glyph, glyphs, lineGlyphs, decimal, ref, bitsAre, lostAre, blank, lineEnd, trackMode, itsRole, itsTotal, refusedBy, kindText, lineText, firstLine, refusedLine}
+use Rattle.listing.specs.Text.{glyphs, lineGlyphs, decimal, ref, bitsAre, lostAre, blank, lineEnd, trackMode, itsRole, itsTotal, refusedBy, kindText, lineText, firstLine, refusedLine}
 use Rattle.receiver.specs.declared.Receiver.{Receiver}
 use Rattle.receiver.specs.declared.Group.{Group}
 use Rattle.receiver.specs.declared.Intervals.{Intervals}

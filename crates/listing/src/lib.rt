@@ -13,11 +13,9 @@ use receiver::receive_gap;
 use receiver::receive_point;
 ghost use mathlib.Core.Path.{_≡_};
 ghost use mathlib.Core.Bool.{cond};
-ghost use mathlib.Core.List.{[], _∷_};
 ghost use Prim.Native.Nat.{_+_, _*_, _-_, _/_, _%_, _^_, _≤_, _<_};
 ghost use lib.Dec.{ltb};
 ghost use lib.ListN.{length, drop};
-ghost use lib.Seq.{sets};
 ghost use Rattle.line.specs.Mode.{width};
 ghost use Rattle.scrambler.specs.Bits.{bits};
 ghost use Rattle.scrambler.specs.Group.{marked};
@@ -25,10 +23,10 @@ ghost use Rattle.receiver.specs.Receiver.{freshReceiver};
 ghost use Rattle.receiver.specs.Outcome.{answerOf, stateOf};
 ghost use Rattle.store.specs.Layout.{rec, points, eventsOf};
 ghost use Rattle.store.specs.Store.{events, total, refusal};
-ghost use Rattle.listing.specs.Text.{decimal, glyphs, kindText, lineText, lines, firstLine, modeIn, roleIn, chainText, refusedLine, text, listNumber, listCount, listResult};
+ghost use Rattle.listing.specs.Text.{decimal, glyphs, kindText, lineText, lines, firstLine, refusedLine, text, listNumber, listCount, listResult};
 ghost use Rattle.listing.specs.Wrote.{Wrote, Went};
 
-// The bytes that hold the longest listing of any store.
+// Bytes enough for the listing of any store.
 pub const LONGEST: usize = 372591;
 
 // ---- numbers and words
@@ -225,7 +223,7 @@ fn put_first(out: &mut [u8], mode: u8, role: u8, total: u32) -> usize
     put_text(out, f, b"\n")
 }
 
-// A receiver that has taken nothing.
+// A receiver that has taken nothing, of a mode and role that an accepted store has: what `receiver::fresh` refuses is ruled out.
 fn fresh_state(mode: u8, role: u8) -> Receiver
     ensures { λ r. ⌜ r ≡ freshReceiver mode role ⌝ }
 {

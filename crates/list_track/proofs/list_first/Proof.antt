@@ -8,15 +8,12 @@ use Rattle.list_track.proofs.list_first.Reads as reads
 use Rattle.list_track.proofs.list_first.Lts as lts
 use Rattle.listing.proofs.list.Reads as list-reads
 
--- src/main.rt:27:32
 slice-aggregate-list : tie.Need-slice-aggregate-list
 slice-aggregate-list c = search needs
 
--- src/main.rt:27:9
 list-requires : tie.Need-list-requires
 list-requires c κs = search needs
 
--- src/main.rt:23:1
 returns : tie.Need-returns
 returns c =
     let a = c .before .before .before .before .args in

@@ -1,9 +1,7 @@
 use native.Mathlib.Omega.{arith}
-use Rattle.listing.proofs.Digits.{Counting, counting-start, counting-left, counting-step, counting-end}
+use Rattle.listing.proofs.Digits.{Counting, counting-start, counting-step, counting-end}
 use Rattle.listing.proofs.digit_count.Statement.{statement}
 use Rattle.listing.proofs.digit_count.Tie as tie
-use Rattle.listing.proofs.digit_count.Reads as reads
-use Rattle.listing.proofs.digit_count.Lts as lts
 
 abbrev Inv-loop : tie.InvT-loop
 Inv-loop n k₀ rest₀ k rest = Counting n k rest

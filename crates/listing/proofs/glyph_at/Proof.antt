@@ -2,38 +2,28 @@ use Rattle.line.proofs.Tests.{tests}
 use borrow.Author.Needs.{needs}
 use Rattle.listing.proofs.glyph_at.Statement.{statement}
 use Rattle.listing.proofs.glyph_at.Tie as tie
-use Rattle.listing.proofs.glyph_at.Reads as reads
-use Rattle.listing.proofs.glyph_at.Lts as lts
 
--- src/lib.rt:82:9
 returns : tie.Need-returns
 returns c = search tests
 
--- src/lib.rt:84:17
 sub-result : tie.Need-sub-result
 sub-result c = search needs
 
--- src/lib.rt:84:17
 sub-result-2 : tie.Need-sub-result-2
 sub-result-2 c = search needs
 
--- src/lib.rt:84:16
 cast-result : tie.Need-cast-result
 cast-result c = search needs
 
--- src/lib.rt:84:16
 cast-result-2 : tie.Need-cast-result-2
 cast-result-2 c = search needs
 
--- src/lib.rt:84:11
 shr-result : tie.Need-shr-result
 shr-result c = search needs
 
--- src/lib.rt:84:5
 add-result : tie.Need-add-result
 add-result c = search needs
 
--- src/lib.rt:77:1
 returns-2 : tie.Need-returns-2
 returns-2 c = search tests
 

@@ -1,18 +1,14 @@
 use Prim.Native.Nat.{_≤_, _-_, _+_}
-use mathlib.Core.Path.{_≡_, refl, sym, ap, _∙_}
+use mathlib.Core.Path.{_≡_, refl}
 use native.Mathlib.Omega.{arith}
 use denote.Ref.{now}
 use native.Mathlib.Nat.{add-zero}
 use borrow.Author.Needs.{needs}
 use lib.ListN.{length}
-use lib.Seq.{sets, length-sets}
+use lib.Seq.{sets}
 use Rattle.listing.proofs.Writes.{bitsLeft, bits-again, bits-end}
 use Rattle.listing.proofs.put_bits.Statement.{statement}
 use Rattle.listing.proofs.put_bits.Tie as tie
-use Rattle.listing.proofs.put_bits.Reads as reads
-use Rattle.listing.proofs.put_bits.Lts as lts
-use Rattle.listing.proofs.glyph_at.Reads as glyph-at-reads
-use Rattle.octets.proofs.put8.Reads as put8-reads
 
 abbrev Inv-loop : tie.InvT-loop
 Inv-loop out₀ at w v unsettled k₀ out k = (k ≤ w) × (length out ≡ length out₀) × (sets out (at + k) (bitsLeft w v unsettled k) ≡ sets out₀ at (bitsLeft w v unsettled 0))
@@ -20,35 +16,27 @@ Inv-loop out₀ at w v unsettled k₀ out k = (k ≤ w) × (length out ≡ lengt
 abbrev μ-loop : tie.MeasureT-loop
 μ-loop out₀ at w v unsettled k₀ out k = w - k
 
--- src/lib.rt:93:5
 loop-holds : tie.Need-loop-holds Inv-loop μ-loop
 loop-holds c = (omega arith, refl, simp add-zero)
 
--- src/lib.rt:94:24
 cast-put8 : tie.Need-cast-put8 Inv-loop μ-loop
 cast-put8 c = omega arith
 
--- src/lib.rt:94:19
 add-put8 : tie.Need-add-put8 Inv-loop μ-loop
 add-put8 c = omega arith
 
--- src/lib.rt:94:36
 glyph-at-requires : tie.Need-glyph-at-requires Inv-loop μ-loop
 glyph-at-requires c κs = omega arith
 
--- src/lib.rt:94:9
 put8-requires : tie.Need-put8-requires Inv-loop μ-loop
 put8-requires c κs = tt
 
--- src/lib.rt:95:9
 add-k : tie.Need-add-k Inv-loop μ-loop
 add-k c = omega arith
 
--- src/lib.rt:93:5
 loop-less : tie.Need-loop-less Inv-loop μ-loop
 loop-less c = omega arith
 
--- src/lib.rt:93:5
 loop-again : tie.Need-loop-again Inv-loop μ-loop
 loop-again c =
     let a = c .before .before .before .before .before .before .before .before .args in
@@ -59,15 +47,12 @@ loop-again c =
       bits-again (now (a .out)) (l .out) _ (a .at) (a .w) (a .v) (a .unsettled) (l .k) _ (c .before .before .before .before .before .loop-test .taken) (c .before .before .before .glyph-at .ensures) e (l .inv .2),
     )
 
--- src/lib.rt:97:5
 add-result : tie.Need-add-result Inv-loop μ-loop
 add-result c = omega arith
 
--- src/lib.rt:88:1
 same-length : tie.Need-same-length Inv-loop μ-loop
 same-length c = search needs
 
--- src/lib.rt:88:1
 returns : tie.Need-returns Inv-loop μ-loop
 returns c =
     let a = c .before .before .before .args in

@@ -1,19 +1,13 @@
-use Prim.Native.Nat.{ℕ, _-_}
-use mathlib.Core.Path.{_≡_, sym, ap, _∙_}
-use mathlib.Core.List.{List}
+use Prim.Native.Nat.{_-_}
+use mathlib.Core.Path.{_∙_}
 use native.Mathlib.Omega.{arith}
 use denote.Ref.{now}
 use borrow.Author.Needs.{needs}
-use Rattle.store.specs.Layout.{count, next, eventsOf}
+use Rattle.store.specs.Layout.{count}
 use Rattle.store.proofs.Readings.{along-in}
 use Rattle.listing.proofs.Lines.{Listing, listing-start, listing-room, listing-step, listing-end, next-first, next-later}
 use Rattle.listing.proofs.put_chain.Statement.{statement}
 use Rattle.listing.proofs.put_chain.Tie as tie
-use Rattle.listing.proofs.put_chain.Reads as reads
-use Rattle.listing.proofs.put_chain.Lts as lts
-use Rattle.listing.proofs.put_record.Reads as put-record-reads
-use Rattle.listing.proofs.record_at.Reads as record-at-reads
-use Rattle.octets.proofs.get16.Reads as get16-reads
 
 abbrev Inv-loop : tie.InvT-loop
 Inv-loop s out₀ at p₀ k₀ i₀ out p k i = Listing s out₀ out (p₀ .at) (p₀ .state) p k i
@@ -21,48 +15,39 @@ Inv-loop s out₀ at p₀ k₀ i₀ out p k i = Listing s out₀ out (p₀ .at) 
 abbrev μ-loop : tie.MeasureT-loop
 μ-loop s out₀ at p₀ k₀ i₀ out p k i = count s - k
 
--- src/lib.rt:204:9
 get16-requires : tie.Need-get16-requires Inv-loop μ-loop
 get16-requires c κs = tt
 
--- src/lib.rt:205:5
 loop-holds : tie.Need-loop-holds Inv-loop μ-loop
 loop-holds c = let a = c .before .before .before .args in listing-start _ _ (a .at) (a .state) _ (c .before .before .before .pre .0) (c .get16 .ensures .0 ∙ next-first (now (a .s)))
 
--- src/lib.rt:206:24
 record-at-requires : tie.Need-record-at-requires Inv-loop μ-loop
 record-at-requires c κs =
     let g = c .before .loop .inv .along in
     let n = along-in _ _ _ g (c .loop-test .taken) in
     omega (arith, n .0, g .size .whole)
 
--- src/lib.rt:206:9
 put-record-requires : tie.Need-put-record-requires Inv-loop μ-loop
 put-record-requires c κs =
     let l = c .before .before .before .loop in
     let r = c .before .record-at .ensures in
     rw r (listing-room _ _ _ _ _ _ (l .p) _ _ (l .inv) (c .before .before .loop-test .taken) (c .before .before .before .before .before .before .before .pre .1))
 
--- src/lib.rt:207:9
 add-k : tie.Need-add-k Inv-loop μ-loop
 add-k c = let g = c .before .before .before .before .before .before .loop .inv .along in omega (arith, g .steps, g .size .most)
 
--- src/lib.rt:208:22
 mul-get16 : tie.Need-mul-get16 Inv-loop μ-loop
 mul-get16 c =
     let g = c .before .before .before .before .before .before .loop .inv .along in
     let n = along-in _ _ _ g (c .before .before .before .before .before .loop-test .taken) in
     omega (arith, n .0, g .size .most)
 
--- src/lib.rt:208:9
 get16-requires-2 : tie.Need-get16-requires-2 Inv-loop μ-loop
 get16-requires-2 c κs = tt
 
--- src/lib.rt:205:5
 loop-less : tie.Need-loop-less Inv-loop μ-loop
 loop-less c = let n = along-in _ _ _ (c .before .before .before .before .before .before .before .loop .inv .along) (c .before .before .before .before .before .before .loop-test .taken) in omega (arith, n .1)
 
--- src/lib.rt:205:5
 loop-again : tie.Need-loop-again Inv-loop μ-loop
 loop-again c =
     let a = c .before .before .before .before .before .before .before .before .before .before .before .args in
@@ -71,11 +56,9 @@ loop-again c =
     listing-step _ _ _ _ _ _ (l .p) _ _ (l .i) _ (l .inv) nz (c .get162 .ensures .0 ∙ next-later (now (a .s)) (l .i) nz) (search needs)
     (rw (c .before .before .before .before .before .record-at .ensures) at (c .before .before .before .put-record .ensures))
 
--- src/lib.rt:198:1
 same-length : tie.Need-same-length Inv-loop μ-loop
 same-length c = c .before .loop .inv .rest .long
 
--- src/lib.rt:198:1
 returns : tie.Need-returns Inv-loop μ-loop
 returns c = listing-end _ _ _ _ _ (c .before .loop .p) _ _ (c .before .loop .inv) (c .loop-test .left)
 

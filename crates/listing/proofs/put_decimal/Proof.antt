@@ -1,18 +1,14 @@
 use Prim.Native.Nat.{_≤_, _-_}
-use mathlib.Core.Path.{_≡_, refl, sym, ap, _∙_}
+use mathlib.Core.Path.{_≡_, refl}
 use native.Mathlib.Omega.{arith}
 use denote.Ref.{now}
 use borrow.Author.Needs.{needs}
 use lib.ListN.{length}
-use lib.Seq.{sets, length-sets}
+use lib.Seq.{sets}
 use Rattle.listing.specs.Text.{decimal}
 use Rattle.listing.proofs.Digits.{spelt, spelt-start, spelt-step, spelt-end}
 use Rattle.listing.proofs.put_decimal.Statement.{statement}
 use Rattle.listing.proofs.put_decimal.Tie as tie
-use Rattle.listing.proofs.put_decimal.Reads as reads
-use Rattle.listing.proofs.put_decimal.Lts as lts
-use Rattle.listing.proofs.digit_count.Reads as digit-count-reads
-use Rattle.octets.proofs.put8.Reads as put8-reads
 
 abbrev Inv-loop : tie.InvT-loop
 Inv-loop out₀ at n end i₀ rest₀ out i rest = (at ≤ i) × (length out ≡ length out₀) × (sets out at (spelt (i - at) rest) ≡ sets out₀ at (decimal n))
@@ -20,39 +16,30 @@ Inv-loop out₀ at n end i₀ rest₀ out i rest = (at ≤ i) × (length out ≡
 abbrev μ-loop : tie.MeasureT-loop
 μ-loop out₀ at n end i₀ rest₀ out i rest = i
 
--- src/lib.rt:54:20
 digit-count-requires : tie.Need-digit-count-requires Inv-loop μ-loop
 digit-count-requires c κs = tt
 
--- src/lib.rt:54:15
 add-end : tie.Need-add-end Inv-loop μ-loop
 add-end c = omega (arith, c .digit-count .ensures)
 
--- src/lib.rt:57:5
 loop-holds : tie.Need-loop-holds Inv-loop μ-loop
 loop-holds c = (omega arith, refl, spelt-start _ _ _ _ _ (c .digit-count .ensures .0) refl)
 
--- src/lib.rt:58:9
 sub-i : tie.Need-sub-i Inv-loop μ-loop
 sub-i c = omega arith
 
--- src/lib.rt:59:27
 cast-put8 : tie.Need-cast-put8 Inv-loop μ-loop
 cast-put8 c = omega arith
 
--- src/lib.rt:59:22
 add-put8 : tie.Need-add-put8 Inv-loop μ-loop
 add-put8 c = omega arith
 
--- src/lib.rt:59:9
 put8-requires : tie.Need-put8-requires Inv-loop μ-loop
 put8-requires c κs = tt
 
--- src/lib.rt:57:5
 loop-less : tie.Need-loop-less Inv-loop μ-loop
 loop-less c = omega arith
 
--- src/lib.rt:57:5
 loop-again : tie.Need-loop-again Inv-loop μ-loop
 loop-again c =
     let a = c .before .before .before .before .before .before .before .before .args in
@@ -63,11 +50,9 @@ loop-again c =
       rw e (spelt-step (now (a .out)) (l .out) (decimal (a .n)) (a .at) (l .i) _ (l .rest) refl (c .before .before .before .before .loop-test .taken) (l .inv .2)),
     )
 
--- src/lib.rt:50:1
 same-length : tie.Need-same-length Inv-loop μ-loop
 same-length c = search needs
 
--- src/lib.rt:50:1
 returns : tie.Need-returns Inv-loop μ-loop
 returns c =
     let a = c .before .before .before .before .args in

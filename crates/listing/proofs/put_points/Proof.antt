@@ -9,15 +9,9 @@ use lib.ListN.{drop}
 use borrow.Author.Needs.{needs}
 use Rattle.store.specs.Layout.{points}
 use Rattle.store.proofs.Readings.{points-next}
-use Rattle.listing.proofs.Lines.{Left, left-all, left-went, left-room, left-none, pointsLeft, points-all, points-none, one-point}
+use Rattle.listing.proofs.Lines.{Left, left-all, left-went, left-none, pointsLeft, points-all, points-none, one-point}
 use Rattle.listing.proofs.put_points.Statement.{statement}
 use Rattle.listing.proofs.put_points.Tie as tie
-use Rattle.listing.proofs.put_points.Reads as reads
-use Rattle.listing.proofs.put_points.Lts as lts
-use Rattle.listing.proofs.put_line.Reads as put-line-reads
-use Rattle.listing.proofs.state_after.Reads as state-after-reads
-use Rattle.octets.proofs.get_i16.Reads as get-i16-reads
-use Rattle.receiver.proofs.receive_point.Reads as receive-point-reads
 
 abbrev Inv-loop : tie.InvT-loop
 Inv-loop r n out₀ at₀ s₀ k₀ out at s k = (k ≤ n) × Left out₀ out at₀ at s₀ s (points (drop 4 r) n) (pointsLeft r n k)
@@ -25,51 +19,39 @@ Inv-loop r n out₀ at₀ s₀ k₀ out at s k = (k ≤ n) × Left out₀ out at
 abbrev μ-loop : tie.MeasureT-loop
 μ-loop r n out₀ at₀ s₀ k₀ out at s k = n - k
 
--- src/lib.rt:161:5
 loop-holds : tie.Need-loop-holds Inv-loop μ-loop
 loop-holds c = let a = c .before .before .before .args in (omega arith, left-all (now (a .out)) (a .from .at) (a .from .state) _ _ (points-all (now (a .r)) (a .n)))
 
--- src/lib.rt:162:24
 mul-byte : tie.Need-mul-byte Inv-loop μ-loop
 mul-byte c = omega arith
 
--- src/lib.rt:162:20
 add-byte : tie.Need-add-byte Inv-loop μ-loop
 add-byte c = omega arith
 
--- src/lib.rt:163:34
 get-i16-requires : tie.Need-get-i16-requires Inv-loop μ-loop
 get-i16-requires c κs = tt
 
--- src/lib.rt:163:63
 add-get-i16 : tie.Need-add-get-i16 Inv-loop μ-loop
 add-get-i16 c = omega arith
 
--- src/lib.rt:163:52
 get-i16-requires-2 : tie.Need-get-i16-requires-2 Inv-loop μ-loop
 get-i16-requires-2 c κs = tt
 
--- src/lib.rt:163:13
 receive-point-requires : tie.Need-receive-point-requires Inv-loop μ-loop
 receive-point-requires c κs = tt
 
--- src/lib.rt:164:9
 put-line-requires : tie.Need-put-line-requires Inv-loop μ-loop
 put-line-requires c κs = omega (arith, c .before .before .before .before .before .loop .inv .1 .behind, c .before .before .before .before .before .before .before .before .before .pre .1)
 
--- src/lib.rt:165:9
 state-after-requires : tie.Need-state-after-requires Inv-loop μ-loop
 state-after-requires c κs = tt
 
--- src/lib.rt:166:9
 add-k : tie.Need-add-k Inv-loop μ-loop
 add-k c = omega arith
 
--- src/lib.rt:161:5
 loop-less : tie.Need-loop-less Inv-loop μ-loop
 loop-less c = omega arith
 
--- src/lib.rt:161:5
 loop-again : tie.Need-loop-again Inv-loop μ-loop
 loop-again c =
     let a = c .before .before .before .before .before .before .before .before .before .before .before .before .before .args in
@@ -82,11 +64,9 @@ loop-again c =
           (one-point (now (a .r)) (l .k) _ _ (l .s) _ _ (toZ-ofZ (sfits-of {w = w16} (x .ok)) ∙ x .ensures) (toZ-ofZ (sfits-of {w = w16} (y .ok)) ∙ y .ensures) (c .before .before .before .before .before .receive-point .ensures .1) (c .state-after .ensures) (c .before .before .before .put-line .ensures)),
     )
 
--- src/lib.rt:154:1
 same-length : tie.Need-same-length Inv-loop μ-loop
 same-length c = search needs
 
--- src/lib.rt:154:1
 returns : tie.Need-returns Inv-loop μ-loop
 returns c =
     let a = c .before .before .before .before .before .args in

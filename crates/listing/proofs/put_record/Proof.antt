@@ -1,68 +1,48 @@
-use mathlib.Core.Path.{_≡_, sym, _∙_}
+use mathlib.Core.Path.{sym, _∙_}
 use native.Mathlib.Omega.{arith}
 use denote.Ref.{now}
 use Rattle.listing.proofs.Lines.{went-points, points-room, went-lost}
 use borrow.Author.Needs.{needs}
 use Rattle.listing.proofs.put_record.Statement.{statement}
 use Rattle.listing.proofs.put_record.Tie as tie
-use Rattle.listing.proofs.put_record.Reads as reads
-use Rattle.listing.proofs.put_record.Lts as lts
-use Rattle.listing.proofs.put_line.Reads as put-line-reads
-use Rattle.listing.proofs.put_points.Reads as put-points-reads
-use Rattle.listing.proofs.state_after.Reads as state-after-reads
-use Rattle.octets.proofs.get32.Reads as get32-reads
-use Rattle.octets.proofs.get8.Reads as get8-reads
-use Rattle.receiver.proofs.receive_gap.Reads as receive-gap-reads
 
--- src/lib.rt:176:8
 get8-requires : tie.Need-get8-requires
 get8-requires c κs = tt
 
--- src/lib.rt:177:30
 get8-requires-2 : tie.Need-get8-requires-2
 get8-requires-2 c κs = tt
 
--- src/lib.rt:177:9
 put-points-requires : tie.Need-put-points-requires
 put-points-requires c κs =
     let a = c .before .before .before .before .before .before .args in
     (c .before .get82 .ensures .1, points-room (now (a .r)) _ (a .from .at) _ (a .from .state) (sym (c .before .before .before .get8 .ensures .0) ∙ c .before .before .if1 .taken) (c .before .get82 .ensures .0) (c .before .before .before .before .before .before .pre))
 
--- src/lib.rt:177:9
 same-length : tie.Need-same-length
 same-length c = search needs
 
--- src/lib.rt:177:9
 returns : tie.Need-returns
 returns c =
     let a = c .before .before .before .before .before .before .before .before .before .args in
     went-points (now (a .r)) _ (sym (c .before .before .before .before .before .before .get8 .ensures .0) ∙ c .before .before .before .before .before .if1 .taken) (c .before .before .before .before .get82 .ensures .0) (c .before .before .put-points .ensures)
 
--- src/lib.rt:180:28
 get32-requires : tie.Need-get32-requires
 get32-requires c κs = tt
 
--- src/lib.rt:180:28
 cast-receive-gap : tie.Need-cast-receive-gap
 cast-receive-gap c = search needs
 
--- src/lib.rt:180:9
 receive-gap-requires : tie.Need-receive-gap-requires
 receive-gap-requires c κs = tt
 
--- src/lib.rt:182:13
 put-line-requires : tie.Need-put-line-requires
 put-line-requires c κs = omega arith
 
--- src/lib.rt:183:16
 state-after-requires : tie.Need-state-after-requires
 state-after-requires c κs = tt
 
--- src/lib.rt:172:1
 same-length-2 : tie.Need-same-length-2
 same-length-2 c = search needs
 
--- src/lib.rt:172:1
 returns-2 : tie.Need-returns-2
 returns-2 c =
     let a = c .before .before .before .before .before .before .before .before .before .before .before .before .args in

@@ -3,48 +3,33 @@ use Rattle.listing.proofs.Texts.{track-room, track-wrote}
 use borrow.Author.Needs.{needs}
 use Rattle.listing.proofs.put_track.Statement.{statement}
 use Rattle.listing.proofs.put_track.Tie as tie
-use Rattle.listing.proofs.put_track.Reads as reads
-use Rattle.listing.proofs.put_track.Lts as lts
-use Rattle.listing.proofs.fresh_state.Reads as fresh-state-reads
-use Rattle.listing.proofs.put_chain.Reads as put-chain-reads
-use Rattle.listing.proofs.put_first.Reads as put-first-reads
-use Rattle.octets.proofs.get8.Reads as get8-reads
 
--- src/lib.rt:246:16
 get8-requires : tie.Need-get8-requires
 get8-requires c κs = tt
 
--- src/lib.rt:246:16
 cast-mode : tie.Need-cast-mode
 cast-mode c = search needs
 
--- src/lib.rt:247:16
 get8-requires-2 : tie.Need-get8-requires-2
 get8-requires-2 c κs = tt
 
--- src/lib.rt:247:16
 cast-role : tie.Need-cast-role
 cast-role c = search needs
 
--- src/lib.rt:248:9
 put-first-requires : tie.Need-put-first-requires
 put-first-requires c κs = tt
 
--- src/lib.rt:249:27
 fresh-state-requires : tie.Need-fresh-state-requires
 fresh-state-requires c κs = tt
 
--- src/lib.rt:249:5
 put-chain-requires : tie.Need-put-chain-requires
 put-chain-requires c κs =
     let a = c .before .before .before .before .before .before .before .before .before .before .args in
     (c .before .before .before .before .before .before .before .before .before .before .pre .0, track-room (now (a .s)) _ _ (a .sum) _ (c .before .before .before .before .before .before .before .before .before .before .pre .0) (c .before .before .before .before .before .before .before .get8 .ensures .0) (c .before .before .before .before .before .before .get82 .ensures .0) (c .before .before .before .before .before .before .before .before .before .before .pre .1) (c .fresh-state .ensures) _ (c .before .before .before .before .put-first .ensures .behind))
 
--- src/lib.rt:242:1
 same-length : tie.Need-same-length
 same-length c = search needs
 
--- src/lib.rt:242:1
 returns : tie.Need-returns
 returns c =
     let a = c .before .before .before .before .before .before .before .before .before .before .before .before .before .args in

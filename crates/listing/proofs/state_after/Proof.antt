@@ -2,38 +2,28 @@ use Rattle.listing.proofs.Writes.{after-bits, after-gap}
 use borrow.Author.Needs.{needs}
 use Rattle.listing.proofs.state_after.Statement.{statement}
 use Rattle.listing.proofs.state_after.Tie as tie
-use Rattle.listing.proofs.state_after.Reads as reads
-use Rattle.listing.proofs.state_after.Lts as lts
 
--- src/lib.rt:119:32
 enum-told : tie.Need-enum-told
 enum-told c = search needs
 
--- src/lib.rt:120:29
 enum-known-o : tie.Need-enum-known-o
 enum-known-o c = search needs
 
--- src/lib.rt:121:26
 enum-known-o-2 : tie.Need-enum-known-o-2
 enum-known-o-2 c = search needs
 
--- src/lib.rt:122:25
 enum-known-o-3 : tie.Need-enum-known-o-3
 enum-known-o-3 c = search needs
 
--- src/lib.rt:115:1
 returns : tie.Need-returns
 returns c = search needs
 
--- src/lib.rt:115:1
 returns-2 : tie.Need-returns-2
 returns-2 c = search needs
 
--- src/lib.rt:115:1
 returns-3 : tie.Need-returns-3
 returns-3 c = let a = c .before .before .before .args in after-bits (a .s) (a .o) _ _ (c .before .o2 .given .1)
 
--- src/lib.rt:115:1
 returns-4 : tie.Need-returns-4
 returns-4 c = let a = c .before .before .before .args in after-gap (a .s) (a .o) _ _ (c .before .o3 .given .1)
 
