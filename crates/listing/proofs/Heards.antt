@@ -1,5 +1,5 @@
--- No event of an accepted store is refused: its points are in range, its lost counts at least 1, and their sum is the total, which
--- four bytes hold. That a point in range lies in a sector is the one premise. Assumes nothing.
+-- No event of an accepted store is refused: its points are in range and in a sector, its lost counts at least 1, and their sum is the
+-- total, which four bytes hold. Assumes nothing.
 use mathlib.Core.Path.{_≡_, refl, ap, _∙_}
 use mathlib.Core.Bool.{Bool, true, false, _&&_}
 use mathlib.Core.List.{List, [], _∷_, _++_}
@@ -13,6 +13,7 @@ use Rattle.line.specs.declared.Decision.the-variants.{State, Origin, NoSector}
 use Rattle.line.specs.Mode.{isMode, isRole}
 use Rattle.line.specs.Point.{inRange}
 use Rattle.line.specs.Decide.{decide}
+use Rattle.line.proofs.SectorLaws.{never-no-sector}
 use Rattle.line.specs.Refusal.{orNext, accepted}
 use Rattle.line.proofs.RefusalLaws.{need-intro}
 use Rattle.octets.specs.Number.{u32, zeros}
@@ -29,7 +30,7 @@ use Rattle.store.proofs.Chains.{All}
 use Rattle.store.proofs.Records.{total-at}
 use Rattle.store.proofs.Sounds.{accepted-sound}
 use Rattle.listing.specs.Text.{taken, modeIn, roleIn}
-use Rattle.listing.specs.Heard.{AllTaken, AreBytes, InSectors, NoneRefused}
+use Rattle.listing.specs.Heard.{AllTaken, AreBytes, NoneRefused}
 
 so : (b : Bool) → b ≡ true → T b
 so true e = tt
@@ -105,23 +106,22 @@ placed : (s : Receiver) (e : Rattle.receiver.specs.Receiver.Event) → eventRef
 unfolding placeAfter
 placed s e z = next-placed s e ∙ ap (λ (n : ℕ). accepted n (s .place .0 + intervals e) (s .place .0)) z
 
-module _ (sectors : InSectors) where
-  all-taken : (es : List Event) (s : Receiver) → Valid s → Fine es → s .place .0 + span es ≤ 4294967295 → AllTaken s es
-  unfolding eventNeeds hasRoom
-  all-taken [] s v f h = tt
-  all-taken (point p ∷ es) s v f h =
-      let z : eventNeeds s (hears p) ≡ 0 =
-      need-intro (inRange p) 8 _ (f .0)
-      (need-intro (inSector (decide (s .mode) p)) 10 _ (in-sector (decide (s .mode) p) (sectors (s .mode) p (v .mode) (f .0)))
-      (need-intro (leb (s .place .0 + 1) 4294967295) 16 0 (so _ (le-leb (s .place .0 + 1) 4294967295 (omega arith))) refl)) in
-      let a : eventRefused s (hears p) ≡ 0 = accepts s (hears p) v z in
-      (a, all-taken es (next s (hears p)) (next-valid s v (hears p)) (f .1) (omega (arith, placed s (hears p) a)))
-  all-taken (lost n ∷ es) s v f h =
-      let z : eventNeeds s (gap n) ≡ 0 =
-      need-intro (leb 1 n) 9 _ (so (leb 1 n) (le-leb 1 n (f .0)))
-      (need-intro (leb (s .place .0 + n) 4294967295) 16 0 (so _ (le-leb (s .place .0 + n) 4294967295 (omega arith))) refl) in
-      let a : eventRefused s (gap n) ≡ 0 = accepts s (gap n) v z in
-      (a, all-taken es (next s (gap n)) (next-valid s v (gap n)) (f .1) (omega (arith, placed s (gap n) a)))
+all-taken : (es : List Event) (s : Receiver) → Valid s → Fine es → s .place .0 + span es ≤ 4294967295 → AllTaken s es
+unfolding eventNeeds hasRoom
+all-taken [] s v f h = tt
+all-taken (point p ∷ es) s v f h =
+    let z : eventNeeds s (hears p) ≡ 0 =
+    need-intro (inRange p) 8 _ (f .0)
+    (need-intro (inSector (decide (s .mode) p)) 10 _ (in-sector (decide (s .mode) p) (never-no-sector (s .mode) p))
+    (need-intro (leb (s .place .0 + 1) 4294967295) 16 0 (so _ (le-leb (s .place .0 + 1) 4294967295 (omega arith))) refl)) in
+    let a : eventRefused s (hears p) ≡ 0 = accepts s (hears p) v z in
+    (a, all-taken es (next s (hears p)) (next-valid s v (hears p)) (f .1) (omega (arith, placed s (hears p) a)))
+all-taken (lost n ∷ es) s v f h =
+    let z : eventNeeds s (gap n) ≡ 0 =
+    need-intro (leb 1 n) 9 _ (so (leb 1 n) (le-leb 1 n (f .0)))
+    (need-intro (leb (s .place .0 + n) 4294967295) 16 0 (so _ (le-leb (s .place .0 + n) 4294967295 (omega arith))) refl) in
+    let a : eventRefused s (gap n) ≡ 0 = accepts s (gap n) v z in
+    (a, all-taken es (next s (gap n)) (next-valid s v (gap n)) (f .1) (omega (arith, placed s (gap n) a)))
 
 -- ---- an accepted store
 fresh-valid : (r : List ℕ) → headOk r ≡ true → Valid (freshReceiver (getD r 4 0) (getD r 5 0))
@@ -135,9 +135,9 @@ fresh-valid r e =
 total-small : (s : List ℕ) → AreBytes s → total s ≤ 4294967295
 total-small s b = omega (arith, total-at s, b 8, b 9, b 10, b 11)
 
-pub none-refused : InSectors → NoneRefused
+pub none-refused : NoneRefused
 unfolding events freshReceiver
-none-refused sectors s b acc =
+none-refused s b acc =
     let o = accepted-sound s acc in
-    all-taken sectors (events s) (freshReceiver (modeIn s) (roleIn s)) (fresh-valid (rec s 0) (o .head)) (chain-fine (rec s) (chain s) (o .records))
+    all-taken (events s) (freshReceiver (modeIn s) (roleIn s)) (fresh-valid (rec s 0) (o .head)) (chain-fine (rec s) (chain s) (o .records))
     (omega (arith, chain-span (rec s) (chain s), o .sum, total-small s b))

@@ -2,13 +2,7 @@
 use mathlib.Core.Path.{_≡_}
 use mathlib.Core.List.{List, [], _∷_}
 use Prim.Native.Nat.{ℕ, _<_}
-use lib.Dec.{T}
 use lib.ListN.{getD}
-use Rattle.line.specs.declared.Point.{Point}
-use Rattle.line.specs.declared.Decision.the-variants.{NoSector}
-use Rattle.line.specs.Mode.{isMode}
-use Rattle.line.specs.Point.{inRange}
-use Rattle.line.specs.Decide.{decide}
 use Rattle.receiver.specs.declared.Receiver.{Receiver}
 use Rattle.receiver.specs.Receiver.{freshReceiver, next}
 use Rattle.receiver.specs.Receiver.{refusal as eventRefusal}
@@ -24,10 +18,6 @@ AllTaken s (e ∷ es) = (eventRefusal s (taken e) ≡ 0) × AllTaken (next s (ta
 -- a list of bytes, as every store is
 abbrev pub AreBytes : List ℕ → Type 0
 AreBytes s = (k : ℕ) → getD s k 0 < 256
-
--- number 10 is never met
-abbrev pub InSectors : Type 0
-InSectors = (m : ℕ) (p : Point) → T (isMode m) → T (inRange p) → decide m p ≡ NoSector → ⊥
 
 abbrev pub NoneRefused : Type 0
 NoneRefused = (s : List ℕ) → AreBytes s → refusal s ≡ 0 → AllTaken (freshReceiver (modeIn s) (roleIn s)) (events s)
