@@ -16,7 +16,7 @@ use Rattle.line.specs.Mode.{face}
 use Rattle.line.specs.Point.{at, pairs, inRange}
 use Rattle.line.specs.Decide.{decide}
 use Rattle.line.specs.Code.{group}
-use Rattle.line.specs.Refusal.{need, orNext, accepted}
+use Rattle.line.specs.Refusal.{need, accepted}
 use Rattle.line.proofs.RefusalLaws.{need-met, need-rest, need-intro, next-first, next-rest}
 use Rattle.line.proofs.TableLaws.{and-left, and-right, and-intro, is-true}
 use Rattle.line.proofs.PointLaws.{pairs-step, pairs-end, pairs-length}
@@ -29,14 +29,12 @@ use Rattle.scrambler.proofs.GroupLaws.{descrambled-small}
 use Rattle.receiver.specs.declared.Reference.{Reference}
 use Rattle.receiver.specs.declared.Reference.the-variants.{Nothing as none, State as some}
 use Rattle.receiver.specs.declared.Receiver.{Receiver}
-use Rattle.receiver.specs.declared.Outcome.{Outcome}
-use Rattle.receiver.specs.declared.Outcome.the-variants.{Refused, Referenced, Bits, Gap}
+use Rattle.receiver.specs.declared.Outcome.the-variants.{Refused}
 use Rattle.receiver.specs.Receiver.{receiver, Event, point, stateRefusal, inSector, hasRoom, eventRefusal, refusal, placeAfter, forgotten, stateLine, stateNext, pointNext, eventNext, next, answer}
 use Rattle.receiver.specs.Outcome.{groupOf, stateOutcome, gapOutcome, pointOutcome, eventOutcome, outcome}
 use Rattle.receiver.specs.Calls.{after, Heard, heard}
 use Rattle.receiver.proofs.OutcomeLaws.{next-placed, or-some}
-use Rattle.receiver.proofs.CallLaws.{handed-back-passes, same-next}
-use Rattle.blocks.specs.declared.Block.{Block}
+use Rattle.receiver.proofs.CallLaws.{handed-back-passes}
 use Rattle.blocks.specs.declared.Block.the-variants.{Refused as NotTaken, Taken}
 use Rattle.blocks.specs.declared.Step.{Step}
 use Rattle.blocks.specs.Block.{lineByte, plainByte, outcomes, EachAccepted, each, lentOk, blockRefusal, block, lineBytes, plainBytes, step}
