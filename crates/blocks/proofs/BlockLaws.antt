@@ -16,7 +16,7 @@ use Rattle.line.specs.Mode.{face}
 use Rattle.line.specs.Point.{at, pairs, inRange}
 use Rattle.line.specs.Decide.{decide}
 use Rattle.line.specs.Code.{group}
-use Rattle.line.specs.Refusal.{need, orNext, accepted}
+use Rattle.line.specs.Refusal.{need, accepted}
 use Rattle.line.proofs.RefusalLaws.{need-met, need-rest, need-intro, next-first, next-rest}
 use Rattle.line.proofs.TableLaws.{and-left, and-right, and-intro, is-true}
 use Rattle.line.proofs.PointLaws.{pairs-step, pairs-end, pairs-length}
@@ -29,17 +29,16 @@ use Rattle.scrambler.proofs.GroupLaws.{descrambled-small}
 use Rattle.receiver.specs.declared.Reference.{Reference}
 use Rattle.receiver.specs.declared.Reference.the-variants.{Nothing as none, State as some}
 use Rattle.receiver.specs.declared.Receiver.{Receiver}
-use Rattle.receiver.specs.declared.Outcome.{Outcome}
-use Rattle.receiver.specs.declared.Outcome.the-variants.{Refused, Referenced, Bits, Gap}
+use Rattle.receiver.specs.declared.Outcome.the-variants.{Refused}
 use Rattle.receiver.specs.Receiver.{receiver, Event, point, stateRefusal, inSector, hasRoom, eventRefusal, refusal, placeAfter, forgotten, stateLine, stateNext, pointNext, eventNext, next, answer}
 use Rattle.receiver.specs.Outcome.{groupOf, stateOutcome, gapOutcome, pointOutcome, eventOutcome, outcome}
 use Rattle.receiver.specs.Calls.{after, Heard, heard}
 use Rattle.receiver.proofs.OutcomeLaws.{next-placed, or-some}
-use Rattle.receiver.proofs.CallLaws.{handed-back-passes, same-next}
+use Rattle.receiver.proofs.CallLaws.{handed-back-passes}
 use Rattle.blocks.specs.declared.Block.{Block}
 use Rattle.blocks.specs.declared.Block.the-variants.{Refused as NotTaken, Taken}
 use Rattle.blocks.specs.declared.Step.{Step}
-use Rattle.blocks.specs.Block.{lineByte, plainByte, outcomes, EachAccepted, each, lentOk, blockRefusal, block, lineBytes, plainBytes, step}
+use Rattle.blocks.specs.Block.{lineByte, plainByte, outcomes, EachAccepted, each, lentOk, blockRefusal, numberOf, stateOf, Told, block, lineBytes, plainBytes, step}
 
 -- ONE POINT
 
@@ -66,24 +65,24 @@ module _ (s : Receiver) (p : Point) (z : refusal s (point p) ≡ 0) where
 
 -- its step, by what it is decided as; the coordinates as they were passed on
 module _ (s : Receiver) (re im : ℤ) (z : refusal s (point (at re im)) ≡ 0) (d : Decision) (re′ im′ : ℤ) (q : d ≡ decide (s .mode) (at re′ im′)) (x : re′ ≡ re) (y : im′ ≡ im) where
-  abbrev told : Step
-  told = step (outcome s (point (at re im))) (next s (point (at re im)))
+  abbrev taken : Step
+  taken = step (outcome s (point (at re im))) (next s (point (at re im)))
 
   decided : d ≡ decide (s .mode) (at re im)
   decided = q ∙ ap₂ (λ (a b : ℤ). decide (s .mode) (at a b)) x y
 
-  step-as : (c : Decision) (r : Step) → d ≡ c → r ≡ step (pointOutcome s c) (pointNext s c) → r ≡ told
+  step-as : (c : Decision) (r : Step) → d ≡ c → r ≡ step (pointOutcome s c) (pointNext s c) → r ≡ taken
   step-as c r e t = t ∙ ap (λ (u : Decision). step (pointOutcome s u) (pointNext s u)) (sym e ∙ decided) ∙ step-is s (at re im) z
 
-  pub hear-state : (n : ℕ) (r : Step) → d ≡ State n → r ≡ step (stateOutcome s (s .reference) n) (stateNext s (s .reference) n) → r ≡ told
+  pub hear-state : (n : ℕ) (r : Step) → d ≡ State n → r ≡ step (stateOutcome s (s .reference) n) (stateNext s (s .reference) n) → r ≡ taken
   unfolding pointOutcome pointNext
   hear-state n r e t = step-as (State n) r e t
 
-  pub hear-origin : (r : Step) → d ≡ Origin → r ≡ step (gapOutcome s 1) (forgotten s 1) → r ≡ told
+  pub hear-origin : (r : Step) → d ≡ Origin → r ≡ step (gapOutcome s 1) (forgotten s 1) → r ≡ taken
   unfolding pointOutcome pointNext
   hear-origin r e t = step-as Origin r e t
 
-  pub hear-nowhere : (r : Step) → d ≡ NoSector → r ≡ told
+  pub hear-nowhere : (r : Step) → d ≡ NoSector → r ≡ taken
   hear-nowhere r e = absurd (never-no-sector (s .mode) (at re im) (sym decided ∙ e))
 
 -- a decided point and the origin from their parts
@@ -242,24 +241,44 @@ module _ (s : Receiver) (zs : List ℤ) (a b f : ℕ) (e : f ≡ stateRefusal s)
             let n = pairs-length zs in
             ap (λ (t : Bool). need t 16 0) (sym (le-leb (s .place .0 + length (pairs zs)) 4294967295 (omega arith))) ∙ room-last
 
+-- what the answer says
+told : (s : Receiver) (zs : List ℤ) (a b : ℕ) → Told s zs a b (block s zs a b)
+unfolding block
+told s zs a b = record { number-is = number (blockRefusal s zs a b); state-is = state (blockRefusal s zs a b) }
+  where
+    number : (n : ℕ) → numberOf (accepted n (Taken (after s (map point (pairs zs)))) (NotTaken n)) ≡ n
+    number zero = refl
+    number (suc n) = refl
+
+    state : (n : ℕ) → stateOf s (accepted n (Taken (after s (map point (pairs zs)))) (NotTaken n)) ≡ accepted n (after s (map point (pairs zs))) s
+    state zero = refl
+    state (suc n) = refl
+
 -- the call
 module _ (s : Receiver) (zs : List ℤ) (l p : List ℕ) where
-  pub refused-law : (f : ℕ) → f ≡ blockRefusal s zs (length l) (length p) → (f ≡ 0 → ⊥)
-      → (NotTaken f ≡ block s zs (length l) (length p)) × (l ≡ lineBytes s zs l (length p)) × (p ≡ plainBytes s zs (length l) p)
+  abbrev Done : Block → List ℕ → List ℕ → Type 0
+  Done r l′ p′ = (r ≡ block s zs (length l) (length p)) × (l′ ≡ lineBytes s zs l (length p)) × (p′ ≡ plainBytes s zs (length l) p)
+
+  with-told : (r : Block) (l′ p′ : List ℕ) → Done r l′ p′ → Done r l′ p′ × Told s zs (length l) (length p) r
+  with-told r l′ p′ d = (d, subst (Told s zs (length l) (length p)) (sym (d .0)) (told s zs (length l) (length p)))
+
+  pub refused-law : (f : ℕ) → f ≡ blockRefusal s zs (length l) (length p) → (f ≡ 0 → ⊥) → Done (NotTaken f) l p × Told s zs (length l) (length p) (NotTaken f)
   unfolding block lineBytes plainBytes
   refused-law zero e h = absurd (h refl)
-  refused-law (suc n) e h = (
-    ap (λ (k : ℕ). accepted k (Taken (after s (map point (pairs zs)))) (NotTaken k)) e,
-    ap (λ (k : ℕ). accepted k (sets l 0 (map lineByte (outcomes s (pairs zs)))) l) e,
-    ap (λ (k : ℕ). accepted k (sets p 0 (map plainByte (outcomes s (pairs zs)))) p) e,
-  )
+  refused-law (suc n) e h =
+      with-told (NotTaken (suc n)) l p (
+        ap (λ (k : ℕ). accepted k (Taken (after s (map point (pairs zs)))) (NotTaken k)) e,
+        ap (λ (k : ℕ). accepted k (sets l 0 (map lineByte (outcomes s (pairs zs)))) l) e,
+        ap (λ (k : ℕ). accepted k (sets p 0 (map plainByte (outcomes s (pairs zs)))) p) e,
+      )
 
   pub taken-law : (f : ℕ) (t : Receiver) (l′ p′ : List ℕ) → f ≡ blockRefusal s zs (length l) (length p) → f ≡ 0 → t ≡ after s (map point (pairs zs))
       → l′ ≡ sets l 0 (map lineByte (outcomes s (pairs zs))) → p′ ≡ sets p 0 (map plainByte (outcomes s (pairs zs)))
-      → (Taken t ≡ block s zs (length l) (length p)) × (l′ ≡ lineBytes s zs l (length p)) × (p′ ≡ plainBytes s zs (length l) p)
+      → Done (Taken t) l′ p′ × Told s zs (length l) (length p) (Taken t)
   unfolding block lineBytes plainBytes
   taken-law f t l′ p′ e z et el ep =
-      let q : 0 ≡ blockRefusal s zs (length l) (length p) = sym z ∙ e in (
+      let q : 0 ≡ blockRefusal s zs (length l) (length p) = sym z ∙ e in
+      with-told (Taken t) l′ p′ (
         ap Taken et ∙ ap (λ (k : ℕ). accepted k (Taken (after s (map point (pairs zs)))) (NotTaken k)) q,
         el ∙ ap (λ (k : ℕ). accepted k (sets l 0 (map lineByte (outcomes s (pairs zs)))) l) q,
         ep ∙ ap (λ (k : ℕ). accepted k (sets p 0 (map plainByte (outcomes s (pairs zs)))) p) q,

@@ -72,7 +72,20 @@ blockRefusal s zs a b =
     (need (each (λ p. inSector (decide (s .mode) p)) (pairs zs)) 10
     (need (hasRoom s (length (pairs zs))) 16 0))))
 
--- THE CALL, with a and b lent bytes
+-- THE CALL, with a bytes lent for line bits and b for data bits
+
+-- what each case of the answer says: a refusal's number, 0 for none; and the state that a later call gets
+abbrev pub numberOf : Block → ℕ
+numberOf (NotTaken n) = n
+numberOf (Taken t) = 0
+
+abbrev pub stateOf : Receiver → Block → Receiver
+stateOf s (NotTaken n) = s
+stateOf s (Taken t) = t
+
+pub record Told (s : Receiver) (zs : List ℤ) (a b : ℕ) (r : Block) : Type 0 where
+  pub number-is : numberOf r ≡ blockRefusal s zs a b
+  pub state-is : stateOf s r ≡ accepted (blockRefusal s zs a b) (after s (map point (pairs zs))) s
 
 -- the refusal's number alone, or the state after the single calls
 unfoldable pub block : Receiver → List ℤ → ℕ → ℕ → Block

@@ -9,7 +9,7 @@ ghost use Rattle.line.specs.Point.{at, pairs, inRange};
 ghost use Rattle.receiver.specs.Receiver.{receiver, point, refusal, stateNext, forgotten, next};
 ghost use Rattle.receiver.specs.Outcome.{stateOutcome, gapOutcome, outcome};
 ghost use Rattle.receiver.specs.Calls.{after};
-ghost use Rattle.blocks.specs.Block.{lineByte, plainByte, outcomes, EachAccepted, each, blockRefusal, block, lineBytes, plainBytes, step};
+ghost use Rattle.blocks.specs.Block.{lineByte, plainByte, outcomes, EachAccepted, each, blockRefusal, Told, block, lineBytes, plainBytes, step};
 use receiver::Intervals;
 use receiver::Receiver;
 use receiver::Reference;
@@ -156,6 +156,7 @@ pub fn receive_points(s: Receiver, points: &[i16], line: &mut [u8], plain: &mut 
     ensures { λ r. ⌜ (r ≡ block s (now (points .entry)) (length (now (line .entry))) (length (now (plain .entry))))
         × (now (line .exit) ≡ lineBytes s (now (points .entry)) (now (line .entry)) (length (now (plain .entry))))
         × (now (plain .exit) ≡ plainBytes s (now (points .entry)) (length (now (line .entry))) (now (plain .entry))) ⌝ }
+    ensures { λ r. ⌜ Told s (now (points .entry)) (length (now (line .entry))) (length (now (plain .entry))) r ⌝ }
 {
     let fault = block_fault(s, points, line.len(), plain.len());
     if fault != 0 {

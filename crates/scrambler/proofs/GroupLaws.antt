@@ -1,19 +1,18 @@
 -- Descrambling: the marks stand in front, the scrambler is undone, and what the functions compute of a group. Assumes nothing.
 use Prim.Native.Nat.{ℕ, zero, suc, _+_, _*_, _-_, _^_, _/_, _%_, _<_, _≤_, min}
 use mathlib.Core.Path.{_≡_, refl, sym, _∙_, ap, ap₂, subst}
-use mathlib.Core.Bool.{Bool, true, false, _&&_}
 use mathlib.Core.List.{List, [], _∷_, _++_, map}
 use native.Mathlib.Nat.{mod-le, mod-lt, mod-eq-of-lt, mul-assoc, mul-add-mod-self-right}
 use native.Mathlib.Omega.{arith}
 use borrow.Author.Tests.{le-leb, lt-leb}
 use lib.Dec.{T, leb, ltb, ltb→lt, lt→ltb}
-use lib.ListN.{length, drop}
+use lib.ListN.{length}
 use lib.Bits.{bitXor}
 use lib.Pow.{pow-pos, pow-add}
 use Rattle.line.specs.Table.{every}
 use Rattle.line.specs.Mode.{width, regLen}
 use Rattle.line.proofs.TableLaws.{and-left, and-right, and-intro}
-use Rattle.line.proofs.ByMode.{by-all, width-range, length-range}
+use Rattle.line.proofs.ByMode.{by-all, width-range}
 use Rattle.scrambler.specs.declared.Register.{Register}
 use Rattle.scrambler.specs.declared.Scrambled.{Scrambled}
 use Rattle.scrambler.specs.declared.Descrambled.{Descrambled}
@@ -22,7 +21,7 @@ use Rattle.scrambler.specs.Register.{register, nearTap, push, pushes}
 use Rattle.scrambler.specs.Scramble.{mix, scramble, Datum, unsettled, settled, mark, descramble}
 use Rattle.scrambler.specs.Group.{scrambled, plainOf, unsettledIn, descrambled, marked}
 use Rattle.scrambler.specs.Windows.{mixedAtOnce}
-use Rattle.scrambler.proofs.BitLaws.{length-bits, bits-are, value-bits, value-small, bits-value, bits-same}
+use Rattle.scrambler.proofs.BitLaws.{length-bits, value-small, bits-value}
 use Rattle.scrambler.proofs.RegisterLaws.{push-group, full-push}
 use Rattle.scrambler.proofs.WindowLaws.{mix-small, unmixed, scramble-at-once, unmixed-at-once}
 

@@ -11,9 +11,6 @@ use Rattle.blocks.specs.Block.{each}
 use Rattle.blocks.proofs.BlockLaws.{range-step, range-end}
 use Rattle.blocks.proofs.all_in_range.Statement.{statement}
 use Rattle.blocks.proofs.all_in_range.Tie as tie
-use Rattle.blocks.proofs.all_in_range.Reads as reads
-use Rattle.blocks.proofs.all_in_range.Lts as lts
-use Rattle.line.proofs.in_range.Reads as in-range-reads
 
 abbrev Inv-loop : tie.InvT-loop
 Inv-loop points all₀ k₀ all k = (k ≤ length points + 1) × (each inRange (pairs points) ≡ all && each inRange (pairs (drop k points)))

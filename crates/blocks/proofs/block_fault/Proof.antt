@@ -3,10 +3,6 @@ use Rattle.blocks.proofs.BlockLaws.{fault-state, fault-lent, fault-rang
 use borrow.Author.Needs.{needs}
 use Rattle.blocks.proofs.block_fault.Statement.{statement}
 use Rattle.blocks.proofs.block_fault.Tie as tie
-use Rattle.blocks.proofs.block_fault.Reads as reads
-use Rattle.blocks.proofs.block_fault.Lts as lts
-use Rattle.blocks.proofs.all_in_range.Reads as all-in-range-reads
-use Rattle.receiver.proofs.state_fault.Reads as state-fault-reads
 
 state-fault-requires : tie.Need-state-fault-requires
 state-fault-requires c κs = search needs
@@ -27,13 +23,13 @@ returns-2 : tie.Need-returns-2
 returns-2 c = fault-none _ _ _ _ _ (c .before .before .before .before .before .before .state-fault .ensures) (c .before .before .before .before .before .if1 .left) _ refl (c .before .before .before .before .if2 .taken) _ (c .before .before .before .all-in-range .ensures) (c .before .before .if3 .taken) (search needs) (c .if4 .taken)
 
 returns-3 : tie.Need-returns-3
-returns-3 c = search (fault-room, needs)
+returns-3 c = fault-room _ _ _ _ _ (c .before .before .before .before .before .before .state-fault .ensures) (c .before .before .before .before .before .if1 .left) _ refl (c .before .before .before .before .if2 .taken) _ (c .before .before .before .all-in-range .ensures) (c .before .before .if3 .taken) (c .if4 .left)
 
 returns-4 : tie.Need-returns-4
-returns-4 c = search (fault-range, needs)
+returns-4 c = fault-range _ _ _ _ _ (c .before .before .before .before .state-fault .ensures) (c .before .before .before .if1 .left) _ refl (c .before .before .if2 .taken) _ (c .before .all-in-range .ensures) (c .if3 .left)
 
 returns-5 : tie.Need-returns-5
-returns-5 c = search (fault-lent, needs)
+returns-5 c = fault-lent _ _ _ _ _ (c .before .before .state-fault .ensures) (c .before .if1 .left) _ refl (c .if2 .left)
 
 pub block-fault-spec : {M : Type 1} → statement M
 block-fault-spec =

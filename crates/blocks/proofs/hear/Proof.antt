@@ -2,11 +2,6 @@ use Rattle.blocks.proofs.BlockLaws.{has-place, hear-state, hear-origin,
 use borrow.Author.Needs.{needs}
 use Rattle.blocks.proofs.hear.Statement.{statement}
 use Rattle.blocks.proofs.hear.Tie as tie
-use Rattle.blocks.proofs.hear.Reads as reads
-use Rattle.blocks.proofs.hear.Lts as lts
-use Rattle.blocks.proofs.lose.Reads as lose-reads
-use Rattle.blocks.proofs.take.Reads as take-reads
-use Rattle.line.proofs.decide.Reads as decide-reads
 
 decide-requires : tie.Need-decide-requires
 decide-requires c κs = search needs

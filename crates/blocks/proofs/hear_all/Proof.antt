@@ -2,16 +2,11 @@ use borrow.Author.Needs.{needs}
 use mir.Facts.{toZ-ofZ}
 use mir.Syntax.{w16}
 use borrow.Author.Needs.{sfits-of}
-use mathlib.Core.Path.{_≡_, refl}
-use Prim.Native.Nat.{_+_, _-_, _≤_}
-use native.Mathlib.Omega.{arith}
-use lib.ListN.{length}
+use mathlib.Core.Path.{refl}
+use Prim.Native.Nat.{_-_}
 use Rattle.blocks.proofs.BlockLaws.{Hearing, hearing-start, hearing-free, hearing-step, hearing-end}
 use Rattle.blocks.proofs.hear_all.Statement.{statement}
 use Rattle.blocks.proofs.hear_all.Tie as tie
-use Rattle.blocks.proofs.hear_all.Reads as reads
-use Rattle.blocks.proofs.hear_all.Lts as lts
-use Rattle.blocks.proofs.hear.Reads as hear-reads
 
 abbrev Inv-loop : tie.InvT-loop
 Inv-loop points line₀ plain₀ n t₀ k₀ line plain t k = Hearing t₀ line₀ plain₀ points t line plain k

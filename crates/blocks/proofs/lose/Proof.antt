@@ -2,10 +2,6 @@ use Rattle.blocks.proofs.BlockLaws.{lose-law}
 use borrow.Author.Needs.{needs}
 use Rattle.blocks.proofs.lose.Statement.{statement}
 use Rattle.blocks.proofs.lose.Tie as tie
-use Rattle.blocks.proofs.lose.Reads as reads
-use Rattle.blocks.proofs.lose.Lts as lts
-use Rattle.blocks.proofs.moved.Reads as moved-reads
-use Rattle.scrambler.proofs.fresh_register.Reads as fresh-register-reads
 
 fresh-register-requires : tie.Need-fresh-register-requires
 fresh-register-requires c κs = search needs

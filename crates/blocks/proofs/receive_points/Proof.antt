@@ -3,10 +3,6 @@ use Rattle.blocks.proofs.BlockLaws.{has-bytes, one-by-one, refused-law,
 use borrow.Author.Needs.{needs}
 use Rattle.blocks.proofs.receive_points.Statement.{statement}
 use Rattle.blocks.proofs.receive_points.Tie as tie
-use Rattle.blocks.proofs.receive_points.Reads as reads
-use Rattle.blocks.proofs.receive_points.Lts as lts
-use Rattle.blocks.proofs.block_fault.Reads as block-fault-reads
-use Rattle.blocks.proofs.hear_all.Reads as hear-all-reads
 
 block-fault-requires : tie.Need-block-fault-requires
 block-fault-requires c κs = search needs

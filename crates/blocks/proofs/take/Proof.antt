@@ -3,11 +3,6 @@ use Rattle.blocks.proofs.BlockLaws.{plain-fits, take-reference, take-bi
 use borrow.Author.Needs.{needs}
 use Rattle.blocks.proofs.take.Statement.{statement}
 use Rattle.blocks.proofs.take.Tie as tie
-use Rattle.blocks.proofs.take.Reads as reads
-use Rattle.blocks.proofs.take.Lts as lts
-use Rattle.blocks.proofs.moved.Reads as moved-reads
-use Rattle.line.proofs.group_of.Reads as group-of-reads
-use Rattle.scrambler.proofs.descramble_group.Reads as descramble-group-reads
 
 enum-told : tie.Need-enum-told
 enum-told c = search needs
