@@ -7,6 +7,7 @@ use borrow.Author.Tests.{eqb-true, eqb-false, eq-eqb, ne-eqb, leb-true, le-leb, 
 use mathlib.Core.List.{List, [], _∷_}
 use lib.Dec.{eqb, leb, ltb}
 use lib.ListN.{length}
+use lib.Seq.{sets}
 use Rattle.store.specs.Store.{need, chain, total, refusal}
 use Rattle.line.specs.declared.Point.{Point}
 use Rattle.line.specs.Point.{inRange}
@@ -31,13 +32,13 @@ unfolding makeResult
 make-kept s mode role h = rw (ne-eqb (makeNumber s mode role) 0 h)
 
 -- ---- a lost count
-pub lost-seen : (s : List ℕ) (v : View) (full : Bool) (n : ℕ) → Viewed s v → full ≡ eqb (v .greatest + 1) (count s)
-    → lostSeen (v .number) (v .total) full n ≡ lostNumber s n
+pub lost-seen : (s : List ℕ) (v : View) (full : Bool) (n x : ℕ) → Viewed s v → full ≡ eqb (v .greatest + 1) (count s)
+    → x ≡ lostSeen (v .number) (v .total) full n → x ≡ lostNumber s n
 unfolding lostSeen lostNumber
-lost-seen s v full n w f =
+lost-seen s v full n x w f e =
     let mine : ℕ = need (leb (v .total + n) mostIntervals) 16 (need (not full) 17 0) in
     let rest : ℕ = need (leb (total s + n) mostIntervals) 16 (need (not (isFull s)) 17 0) in
-    ap (need (leb 1 n) 9) (or-same (v .number) mine rest (λ z. cc (w .total-is z, w .most z, f)) ∙ ap (λ (x : ℕ). orElse x rest) (w .number))
+    e ∙ ap (need (leb 1 n) 9) (or-same (v .number) mine rest (λ z. cc (w .total-is z, w .most z, f)) ∙ ap (λ (x : ℕ). orElse x rest) (w .number))
 
 -- what holds of a store that a new record is not refused for
 not-full : (s : List ℕ) → refusal s ≡ 0 → not (isFull s) ≡ true → newIndex (chain s) < count s
@@ -75,12 +76,12 @@ unfolding lostResult
 lost-done s n e = rw (eq-eqb (lostNumber s n) 0 e)
 
 -- the writes of an append, from what it looked at
-pub lost-linked : (s : List ℕ) (v : View) (r : List ℕ) (n : ℕ) → Viewed s v → lostNumber s n ≡ 0 → r ≡ lostRecord n
-    → write (write (write s (v .greatest + 1) 0 r) (v .last) (linkIn (v .last)) (le16 (v .greatest + 1))) 0 totalAt (le32 (v .total + n)) ≡ lostResult s n
+pub lost-linked : (s s₁ s₂ : List ℕ) (v : View) (r : List ℕ) (n : ℕ) → Viewed s v → lostNumber s n ≡ 0 → r ≡ lostRecord n
+    → s₁ ≡ write (write s (v .greatest + 1) 0 r) (v .last) (linkIn (v .last)) (le16 (v .greatest + 1)) → s₂ ≡ sets s₁ 8 (le32 (v .total + n)) → s₂ ≡ lostResult s n
 unfolding lostAppended
-lost-linked s v r n w e h =
+lost-linked s s₁ s₂ v r n w e h p q =
     let z : v .number ≡ 0 = w .number ∙ lost-free s n e .accepted in
-    rw (w .last z, w .most z, w .total-is z, h) (lost-done s n e)
+    q ∙ ap (λ (x : List ℕ). sets x 8 (le32 (v .total + n))) p ∙ rw (w .last z, w .most z, w .total-is z, h) (lost-done s n e)
 
 pub lost-kept : (s : List ℕ) (n : ℕ) → (lostNumber s n ≡ 0 → ⊥) → s ≡ lostResult s n
 unfolding lostResult

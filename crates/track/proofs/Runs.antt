@@ -158,7 +158,7 @@ seen-outside number t room n zs h e f =
     sym (seen-numbers number t room n zs h e ∙ ap (λ (b : Bool). need b 8 (seenNumber number (t + n) (room - n) (pairs (drop (2 * n) zs)))) f)
 
 -- it is the number of the appends one after the other
-pub each-seen : (s : List ℕ) (number t room : ℕ) (ps : List Point) → number ≡ refusal s → (number ≡ 0 → t ≡ total s) → (number ≡ 0 → room ≡ spaces s)
+each-seen : (s : List ℕ) (number t room : ℕ) (ps : List Point) → number ≡ refusal s → (number ≡ 0 → t ≡ total s) → (number ≡ 0 → room ≡ spaces s)
     → seenNumber number t room ps ≡ eachNumber s ps
 unfolding seenNumber
 each-seen s number t room [] w f g = refl
@@ -257,13 +257,17 @@ pub points-odd : (s : List ℕ) (zs : List ℤ) → (length zs % 2 ≡ 0 → ⊥
 unfolding pointsNumber pointsResult
 points-odd s zs h = (rw (ne-eqb (length zs % 2) 0 h), rw (ne-eqb (length zs % 2) 0 h))
 
-pub points-even : (s : List ℕ) (zs : List ℤ) → length zs % 2 ≡ 0 → eachNumber s (pairs zs) ≡ pointsNumber s zs
-unfolding pointsNumber
-points-even s zs h = rw (eq-eqb (length zs % 2) 0 h)
+pub points-each : (s : List ℕ) (zs : List ℤ) (v : View) (room x : ℕ) → Viewed s v → (v .number ≡ 0 → room ≡ spaces s)
+    → x ≡ seenNumber (v .number) (v .total) room (pairs zs) → x ≡ eachNumber s (pairs zs)
+points-each s zs v room x w r e = e ∙ each-seen s (v .number) (v .total) room (pairs zs) (w .number) (w .total-is) r
 
-pub points-done : (s : List ℕ) (zs : List ℤ) → pointsNumber s zs ≡ 0 → eachResult s (pairs zs) ≡ pointsResult s zs
+pub points-even : (s : List ℕ) (zs : List ℤ) (x : ℕ) → length zs % 2 ≡ 0 → x ≡ eachNumber s (pairs zs) → x ≡ pointsNumber s zs
+unfolding pointsNumber
+points-even s zs x h e = rw (eq-eqb (length zs % 2) 0 h) e
+
+pub points-done : (s s′ : List ℕ) (zs : List ℤ) → pointsNumber s zs ≡ 0 → s′ ≡ eachResult s (pairs zs) → s′ ≡ pointsResult s zs
 unfolding pointsResult
-points-done s zs e = rw (eq-eqb (pointsNumber s zs) 0 e)
+points-done s s′ zs e q = rw (eq-eqb (pointsNumber s zs) 0 e) q
 
 pub points-kept : (s : List ℕ) (zs : List ℤ) → (pointsNumber s zs ≡ 0 → ⊥) → s ≡ pointsResult s zs
 unfolding pointsResult

@@ -92,10 +92,10 @@ fn point_record(re: i16, im: i16) -> [u8; 32]
     bytes
 }
 
-// The 32 bytes `r` as record i.
-fn put_record(store: &mut [u8], i: usize, r: &[u8])
-    requires { ⌜ (32 * i + 32 ≤ length (now store)) × (length (now r) ≡ 32) ⌝ }
-    ensures { λ _. ⌜ now (store .exit) ≡ write (now (store .entry)) i 0 (now (r .entry)) ⌝ }
+// The bytes `r` as record i. They come by value: so no byte of the store is one of them, and all are copied at once.
+fn put_record(store: &mut [u8], i: usize, r: [u8; 32])
+    requires { ⌜ (32 * i + 32 ≤ length (now store)) × (length r ≡ 32) ⌝ }
+    ensures { λ _. ⌜ now (store .exit) ≡ write (now (store .entry)) i 0 r ⌝ }
 {
     let at = 32 * i;
     let mut k = 0;
@@ -106,9 +106,9 @@ fn put_record(store: &mut [u8], i: usize, r: &[u8])
 }
 
 // The new record `r` at index `new`, and its link in the chain's last record.
-fn link(store: &mut [u8], last: usize, new: usize, r: &[u8])
-    requires { ⌜ (32 * last + 32 ≤ length (now store)) × (32 * new + 32 ≤ length (now store)) × (length (now r) ≡ 32) ⌝ }
-    ensures { λ _. ⌜ now (store .exit) ≡ write (write (now (store .entry)) new 0 (now (r .entry))) last (linkIn last) (le16 new) ⌝ }
+fn link(store: &mut [u8], last: usize, new: usize, r: [u8; 32])
+    requires { ⌜ (32 * last + 32 ≤ length (now store)) × (32 * new + 32 ≤ length (now store)) × (length r ≡ 32) ⌝ }
+    ensures { λ _. ⌜ now (store .exit) ≡ write (write (now (store .entry)) new 0 r) last (linkIn last) (le16 new) ⌝ }
 {
     put_record(store, new, r);
     put16(store, 32 * last + link_in(last), new);
@@ -200,7 +200,7 @@ pub fn append_lost(store: &mut [u8], n: u32) -> u8
     let full = v.greatest + 1 == store.len() / 32;
     let number = lost_number(v.number, v.total, full, lost);
     if number == 0 {
-        link(store, v.last, v.greatest + 1, &lost_record(lost));
+        link(store, v.last, v.greatest + 1, lost_record(lost));
         put32(store, TOTAL_AT, v.total + lost);
     }
     number
@@ -247,7 +247,7 @@ fn place_point(store: &mut [u8], e: End, re: i16, im: i16) -> End
         };
     }
     let new = e.greatest + 1;
-    link(store, last, new, &point_record(re, im));
+    link(store, last, new, point_record(re, im));
     End {
         last: new,
         greatest: new,

@@ -1,13 +1,6 @@
 use mathlib.Core.Path.{_≡_, refl, sym, ap, _∙_}
 use denote.Ref.{now}
-use native.Mathlib.Omega.{arith}
-use Prim.Native.Nat.{_+_}
-use mathlib.Core.List.{List}
-use Prim.Native.Nat.{ℕ}
 use lib.ListN.{length}
-use lib.Seq.{sets}
-use Rattle.octets.specs.Number.{le32}
-use Rattle.track.specs.Append.{lostNumber}
 use Rattle.track.proofs.Answers.{lost-seen, lost-reach, lost-linked, lost-kept}
 use borrow.Author.Needs.{needs}
 use Rattle.track.proofs.append_lost.Statement.{statement}
@@ -35,16 +28,13 @@ add-link c = search needs
 lost-record-requires : tie.Need-lost-record-requires
 lost-record-requires c κs = search needs
 
-slice-aggregate-link : tie.Need-slice-aggregate-link
-slice-aggregate-link c = search needs
-
 link-requires : tie.Need-link-requires
 link-requires c κs =
-    let a = c .before .before .before .before .before .before .before .before .before .before .args in
-    let v = c .before .before .before .before .before .before .before .inspect in
-    let n : c .before .before .before .before .before .lost-number .result ≡ lostNumber (now (a .store)) (a .n) = c .before .before .before .before .before .lost-number .ensures ∙ lost-seen (now (a .store)) (v .result) _ (a .n) (v .ensures) refl in
-    let f = lost-reach (now (a .store)) (v .result) (a .n) (v .ensures) (sym n ∙ c .before .before .before .before .if1 .taken) in
-    (f .0, f .1, ap length (c .before .lost-record .ensures))
+    let a = c .before .before .before .before .before .before .before .before .before .args in
+    let v = c .before .before .before .before .before .before .inspect in
+    let n = lost-seen (now (c .before .before .before .before .before .before .before .before .before .args .store)) (c .before .before .before .before .before .before .inspect .result) _ (c .before .before .before .before .before .before .before .before .before .args .n) (c .before .before .before .before .lost-number .result) (c .before .before .before .before .before .before .inspect .ensures) refl (c .before .before .before .before .lost-number .ensures) in
+    let f = lost-reach (now (a .store)) (v .result) (a .n) (v .ensures) (sym n ∙ c .before .before .before .if1 .taken) in
+    (f .0, f .1, ap length (c .lost-record .ensures))
 
 add-put32 : tie.Need-add-put32
 add-put32 c = search needs
@@ -57,13 +47,10 @@ same-length c = search needs
 
 returns : tie.Need-returns
 returns c =
-    let a = c .before .before .before .before .before .before .before .before .before .before .before .before .before .before .before .before .before .before .args in
-    let v = c .before .before .before .before .before .before .before .before .before .before .before .before .before .before .before .inspect in
-    let n : c .before .before .before .before .before .before .before .before .before .before .before .before .before .lost-number .result ≡ lostNumber (now (a .store)) (a .n) = c .before .before .before .before .before .before .before .before .before .before .before .before .before .lost-number .ensures ∙ lost-seen (now (a .store)) (v .result) _ (a .n) (v .ensures) refl in (
-      n,
-      c .before .before .put32 .ensures ∙ ap (λ (x : List ℕ). sets x 8 (le32 (v .result .total + a .n))) (c .before .before .before .before .before .before .before .link .ensures)
-          ∙ lost-linked (now (a .store)) (v .result) _ (a .n) (v .ensures) (sym n ∙ c .before .before .before .before .before .before .before .before .before .before .before .before .if1 .taken) (c .before .before .before .before .before .before .before .before .before .lost-record .ensures),
-    )
+    let a = c .before .before .before .before .before .before .before .before .before .before .before .before .before .before .before .before .before .args in
+    let v = c .before .before .before .before .before .before .before .before .before .before .before .before .before .before .inspect in
+    let n = lost-seen (now (c .before .before .before .before .before .before .before .before .before .before .before .before .before .before .before .before .before .args .store)) (c .before .before .before .before .before .before .before .before .before .before .before .before .before .before .inspect .result) _ (c .before .before .before .before .before .before .before .before .before .before .before .before .before .before .before .before .before .args .n) (c .before .before .before .before .before .before .before .before .before .before .before .before .lost-number .result) (c .before .before .before .before .before .before .before .before .before .before .before .before .before .before .inspect .ensures) refl (c .before .before .before .before .before .before .before .before .before .before .before .before .lost-number .ensures) in
+    (n, lost-linked (now (a .store)) _ _ (v .result) _ (a .n) (v .ensures) (sym n ∙ c .before .before .before .before .before .before .before .before .before .before .before .if1 .taken) (c .before .before .before .before .before .before .before .before .lost-record .ensures) (c .before .before .before .before .before .before .before .link .ensures) (c .before .before .put32 .ensures))
 
 same-length-2 : tie.Need-same-length-2
 same-length-2 c = search needs
@@ -71,8 +58,7 @@ same-length-2 c = search needs
 returns-2 : tie.Need-returns-2
 returns-2 c =
     let a = c .before .before .before .before .before .before .args in
-    let v = c .before .before .before .inspect in
-    let n : c .before .lost-number .result ≡ lostNumber (now (a .store)) (a .n) = c .before .lost-number .ensures ∙ lost-seen (now (a .store)) (v .result) _ (a .n) (v .ensures) refl in
+    let n = lost-seen (now (c .before .before .before .before .before .before .args .store)) (c .before .before .before .inspect .result) _ (c .before .before .before .before .before .before .args .n) (c .before .lost-number .result) (c .before .before .before .inspect .ensures) refl (c .before .lost-number .ensures) in
     (n, lost-kept (now (a .store)) (a .n) (λ e. c .if1 .left (n ∙ e)))
 
 pub append-lost-spec : {M : Type 1} → statement M
@@ -84,7 +70,6 @@ append-lost-spec =
     lost-number-requires
     add-link
     lost-record-requires
-    slice-aggregate-link
     link-requires
     add-put32
     put32-requires

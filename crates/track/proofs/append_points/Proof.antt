@@ -1,7 +1,6 @@
 use denote.Ref.{now}
 use mathlib.Core.Path.{_≡_, refl, sym, ap, _∙_}
-use Rattle.track.specs.Points.{pairs, eachNumber, pointsNumber}
-use Rattle.track.proofs.Runs.{each-seen, points-odd, points-even, points-done, points-kept}
+use Rattle.track.proofs.Runs.{points-each, points-odd, points-even, points-done, points-kept}
 use borrow.Author.Needs.{needs}
 use Rattle.track.proofs.append_points.Statement.{statement}
 use Rattle.track.proofs.append_points.Tie as tie
@@ -26,9 +25,7 @@ points-number-requires c κs = search needs
 
 place-points-requires : tie.Need-place-points-requires
 place-points-requires c κs =
-    let a = c .before .before .before .before .before .before .before .before .before .args in
-    let v = c .before .before .before .before .before .inspect .ensures in
-    (v, sym (c .before .before .points-number .ensures ∙ each-seen (now (a .store)) _ _ _ (pairs (now (a .points))) (v .number) (v .total-is) (c .before .before .before .room-for .ensures)) ∙ c .before .if2 .taken)
+    (c .before .before .before .before .before .inspect .ensures, sym (points-each (now (c .before .before .before .before .before .before .before .before .before .args .store)) (now (c .before .before .before .before .before .before .before .before .before .args .points)) (c .before .before .before .before .before .inspect .result) (c .before .before .before .room-for .result) (c .before .before .points-number .result) (c .before .before .before .before .before .inspect .ensures) (c .before .before .before .room-for .ensures) (c .before .before .points-number .ensures)) ∙ c .before .if2 .taken)
 
 same-length : tie.Need-same-length
 same-length c = search needs
@@ -36,11 +33,8 @@ same-length c = search needs
 returns-2 : tie.Need-returns-2
 returns-2 c =
     let a = c .before .before .before .before .before .before .before .before .before .before .before .before .args in
-    let v = c .before .before .before .before .before .before .before .before .inspect .ensures in
-    let n : c .before .before .before .before .before .points-number .result ≡ pointsNumber (now (a .store)) (now (a .points)) =
-    c .before .before .before .before .before .points-number .ensures ∙ each-seen (now (a .store)) _ _ _ (pairs (now (a .points))) (v .number) (v .total-is) (c .before .before .before .before .before .before .room-for .ensures)
-    ∙ points-even (now (a .store)) (now (a .points)) (c .before .before .before .before .before .before .before .before .before .before .if1 .left) in
-    (n, c .before .before .place-points .ensures ∙ points-done (now (a .store)) (now (a .points)) (sym n ∙ c .before .before .before .before .if2 .taken))
+    let n = points-even (now (a .store)) (now (a .points)) _ (c .before .before .before .before .before .before .before .before .before .before .if1 .left) (points-each (now (c .before .before .before .before .before .before .before .before .before .before .before .before .args .store)) (now (c .before .before .before .before .before .before .before .before .before .before .before .before .args .points)) (c .before .before .before .before .before .before .before .before .inspect .result) (c .before .before .before .before .before .before .room-for .result) (c .before .before .before .before .before .points-number .result) (c .before .before .before .before .before .before .before .before .inspect .ensures) (c .before .before .before .before .before .before .room-for .ensures) (c .before .before .before .before .before .points-number .ensures)) in
+    (n, points-done (now (a .store)) _ (now (a .points)) (sym n ∙ c .before .before .before .before .if2 .taken) (c .before .before .place-points .ensures))
 
 same-length-2 : tie.Need-same-length-2
 same-length-2 c = search needs
@@ -48,10 +42,7 @@ same-length-2 c = search needs
 returns-3 : tie.Need-returns-3
 returns-3 c =
     let a = c .before .before .before .before .before .before .before .before .args in
-    let v = c .before .before .before .before .inspect .ensures in
-    let n : c .before .points-number .result ≡ pointsNumber (now (a .store)) (now (a .points)) =
-    c .before .points-number .ensures ∙ each-seen (now (a .store)) _ _ _ (pairs (now (a .points))) (v .number) (v .total-is) (c .before .before .room-for .ensures)
-    ∙ points-even (now (a .store)) (now (a .points)) (c .before .before .before .before .before .before .if1 .left) in
+    let n = points-even (now (a .store)) (now (a .points)) _ (c .before .before .before .before .before .before .if1 .left) (points-each (now (c .before .before .before .before .before .before .before .before .args .store)) (now (c .before .before .before .before .before .before .before .before .args .points)) (c .before .before .before .before .inspect .result) (c .before .before .room-for .result) (c .before .points-number .result) (c .before .before .before .before .inspect .ensures) (c .before .before .room-for .ensures) (c .before .points-number .ensures)) in
     (n, points-kept (now (a .store)) (now (a .points)) (λ e. c .if2 .left (n ∙ e)))
 
 pub append-points-spec : {M : Type 1} → statement M

@@ -35,20 +35,17 @@ add-new c = omega (arith, c .before .before .before .pre .new-in (c .before .if1
 point-record-requires : tie.Need-point-record-requires
 point-record-requires c κs = search needs
 
-slice-aggregate-link : tie.Need-slice-aggregate-link
-slice-aggregate-link c = search needs
-
 link-requires : tie.Need-link-requires
-link-requires c κs = (c .before .before .before .before .before .before .pre .last-in, c .before .before .before .before .before .before .pre .new-in (c .before .before .before .before .if1 .left), ap length (c .before .point-record .ensures))
+link-requires c κs = (c .before .before .before .before .before .pre .last-in, c .before .before .before .before .before .pre .new-in (c .before .before .before .if1 .left), ap length (c .point-record .ensures))
 
 same-length-2 : tie.Need-same-length-2
 same-length-2 c = search needs
 
 returns-2 : tie.Need-returns-2
 returns-2 c =
-    let a = c .before .before .before .before .before .before .before .before .before .args in
-    let f = c .before .before .before .before .before .before .before .before .before .fits in
-    placed-linked (now (a .store)) _ _ (a .e) (at (a .re) (a .im)) (c .before .before .before .before .before .before .before .if1 .left) (rw (toZ-ofZ (f .re), toZ-ofZ (f .im)) at (c .before .before .before .before .point-record .ensures)) (c .before .before .link .ensures)
+    let a = c .before .before .before .before .before .before .before .before .args in
+    let f = c .before .before .before .before .before .before .before .before .fits in
+    placed-linked (now (a .store)) _ _ (a .e) (at (a .re) (a .im)) (c .before .before .before .before .before .before .if1 .left) (rw (toZ-ofZ (f .re), toZ-ofZ (f .im)) at (c .before .before .before .point-record .ensures)) (c .before .before .link .ensures)
 
 pub place-point-spec : {M : Type 1} → statement M
 place-point-spec =
@@ -60,7 +57,6 @@ place-point-spec =
     returns
     add-new
     point-record-requires
-    slice-aggregate-link
     link-requires
     same-length-2
     returns-2)
