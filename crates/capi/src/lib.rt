@@ -1,24 +1,15 @@
-// The calls for C and Rust, over lent bytes and numbers. The layouts stand in the specs/ of `lent` and in include/kerambiu.h.
+// The calls for C and Rust, by their exported names. What each does is in the crates that it calls; include/kerambiu.h declares them.
 ghost use mathlib.Core.Path.{_≡_};
+ghost use lib.ListN.{length as size};
 ghost use Rattle.line.specs.Point.{at};
 ghost use Rattle.receiver.specs.Receiver.{point, gap};
+ghost use Rattle.store.specs.Reading.{readNumber, readCount, readResult};
 ghost use Rattle.track.specs.Append.{makeNumber, makeResult, lostNumber, lostResult, pointNumber, pointResult};
 ghost use Rattle.track.specs.Points.{pointsNumber, pointsResult};
-ghost use Rattle.lent.specs.Receiving.{freshNumber, freshState, callNumber, callState, callAnswer};
-ghost use Rattle.lent.specs.Sending.{openNumber, openState, openOut, sendNumber, sendState, sendOut};
-ghost use lib.ListN.{length};
-ghost use Rattle.store.specs.Reading.{readNumber, readCount, readResult};
 ghost use Rattle.listing.specs.Text.{listNumber, listCount, listResult};
-ghost use Rattle.capi.specs.Blocks.{blockNumber, blockState, blockLine, blockPlain, takenNumber, takenState};
+ghost use Rattle.lent_receiver.specs.Receiving.{freshNumber, freshState, callNumber, callState, callAnswer, blockNumber, blockState, blockLine, blockPlain};
+ghost use Rattle.lent_sender.specs.Sending.{openNumber, openState, openOut, sendNumber, sendState, sendOut};
 ghost use Rattle.capi.specs.Counted.{countedNumber, countedOut, countedCounts};
-use blocks::Block;
-use lent::hand_back;
-use lent::load_receiver;
-use lent::load_sender;
-use lent::put_sent;
-use lent::receiver_bytes;
-use octets::put_all;
-use receiver::Started;
 
 // ---- the receiver's calls
 
@@ -27,17 +18,7 @@ use receiver::Started;
 pub extern "C" fn kerambiu_fresh(state: &mut [u8], mode: u8, role: u8) -> u8
     ensures { λ r. ⌜ (r ≡ freshNumber (now (state .entry)) mode role) × (now (state .exit) ≡ freshState (now (state .entry)) mode role) ⌝ }
 {
-    let started = receiver::fresh(mode, role);
-    match started {
-        Started::Refused(n) => n,
-        Started::Ready(s) => {
-            if state.len() < 16 {
-                return 7;
-            }
-            put_all(state, 0, &receiver_bytes(s));
-            0
-        }
-    }
+    lent_receiver::fresh(state, mode, role)
 }
 
 // A point: 0, or the number that refuses it.
@@ -50,40 +31,10 @@ pub extern "C" fn kerambiu_receive_point(
 ) -> u8
     ensures { λ r. ⌜ (r ≡ callNumber (now (state .entry)) (now (answer .entry)) (point (at re im))) × (now (state .exit) ≡ callState (now (state .entry)) (now (answer .entry)) (point (at re im))) × (now (answer .exit) ≡ callAnswer (now (state .entry)) (now (answer .entry)) (point (at re im))) ⌝ }
 {
-    if state.len() < 16 {
-        return 7;
-    }
-    let o = receiver::receive_point(load_receiver(state), re, im);
-    hand_back(state, answer, o)
+    lent_receiver::receive_point(state, re, im, answer)
 }
 
-// A gap of n intervals: 0, or the number that refuses it.
-#[no_mangle]
-pub extern "C" fn kerambiu_receive_gap(state: &mut [u8], n: u32, answer: &mut [u8]) -> u8
-    ensures { λ r. ⌜ (r ≡ callNumber (now (state .entry)) (now (answer .entry)) (gap n)) × (now (state .exit) ≡ callState (now (state .entry)) (now (answer .entry)) (gap n)) × (now (answer .exit) ≡ callAnswer (now (state .entry)) (now (answer .entry)) (gap n)) ⌝ }
-{
-    if state.len() < 16 {
-        return 7;
-    }
-    let o = receiver::receive_gap(load_receiver(state), n);
-    hand_back(state, answer, o)
-}
-
-// Writes the state that a block hands back: 0, or the number that refuses it.
-fn put_taken(state: &mut [u8], block: Block) -> u8
-    ensures { λ r. ⌜ (r ≡ takenNumber block) × (now (state .exit) ≡ takenState block (now (state .entry))) ⌝ }
-{
-    match block {
-        Block::Refused(n) => n,
-        Block::Taken(t) => {
-            put_all(state, 0, &receiver_bytes(t));
-            0
-        }
-    }
-}
-
-// Points, re and im in turn, all or none, with a byte of line bits and one of data bits for each: 0, or the number that refuses
-// them.
+// Points, re and im in turn, all or none: 0, or the number that refuses them.
 #[no_mangle]
 pub extern "C" fn kerambiu_receive_points(
     state: &mut [u8],
@@ -91,13 +42,20 @@ pub extern "C" fn kerambiu_receive_points(
     line: &mut [u8],
     plain: &mut [u8],
 ) -> u8
-    ensures { λ r. ⌜ (r ≡ blockNumber (now (state .entry)) (now (points .entry)) (length (now (line .entry))) (length (now (plain .entry)))) × (now (state .exit) ≡ blockState (now (state .entry)) (now (points .entry)) (length (now (line .entry))) (length (now (plain .entry)))) × (now (line .exit) ≡ blockLine (now (state .entry)) (now (points .entry)) (now (line .entry)) (length (now (plain .entry)))) × (now (plain .exit) ≡ blockPlain (now (state .entry)) (now (points .entry)) (length (now (line .entry))) (now (plain .entry))) ⌝ }
+    ensures { λ r. ⌜ (r ≡ blockNumber (now (state .entry)) (now (points .entry)) (now (line .entry)) (now (plain .entry)))
+        × (now (state .exit) ≡ blockState (now (state .entry)) (now (points .entry)) (now (line .entry)) (now (plain .entry)))
+        × (now (line .exit) ≡ blockLine (now (state .entry)) (now (points .entry)) (now (line .entry)) (now (plain .entry)))
+        × (now (plain .exit) ≡ blockPlain (now (state .entry)) (now (points .entry)) (now (line .entry)) (now (plain .entry))) ⌝ }
 {
-    if state.len() < 16 {
-        return 7;
-    }
-    let block = blocks::receive_points(load_receiver(state), points, line, plain);
-    put_taken(state, block)
+    lent_receiver::receive_points(state, points, line, plain)
+}
+
+// A gap of n intervals: 0, or the number that refuses it.
+#[no_mangle]
+pub extern "C" fn kerambiu_receive_gap(state: &mut [u8], n: u32, answer: &mut [u8]) -> u8
+    ensures { λ r. ⌜ (r ≡ callNumber (now (state .entry)) (now (answer .entry)) (gap n)) × (now (state .exit) ≡ callState (now (state .entry)) (now (answer .entry)) (gap n)) × (now (answer .exit) ≡ callAnswer (now (state .entry)) (now (answer .entry)) (gap n)) ⌝ }
+{
+    lent_receiver::receive_gap(state, n, answer)
 }
 
 // ---- the sender's calls
@@ -115,13 +73,7 @@ pub extern "C" fn kerambiu_open(
 ) -> u8
     ensures { λ r. ⌜ (r ≡ openNumber (now (state .entry)) mode role length (now (out .entry)) offset) × (now (state .exit) ≡ openState (now (state .entry)) mode role length (now (out .entry)) offset) × (now (out .exit) ≡ openOut (now (state .entry)) mode role length (now (out .entry)) offset) ⌝ }
 {
-    if state.len() < 16 {
-        let past = out.len() + 1;
-        let refused = sender::open(mode, role, length, out, past);
-        return put_sent(state, refused);
-    }
-    let sent = sender::open(mode, role, length, out, offset);
-    put_sent(state, sent)
+    lent_sender::open(state, mode, role, length, out, offset)
 }
 
 // Sends data bits, one in a byte: their points stand in `out` from `offset` on. 0, or the number that refuses it.
@@ -134,11 +86,7 @@ pub extern "C" fn kerambiu_send(
 ) -> u8
     ensures { λ r. ⌜ (r ≡ sendNumber (now (state .entry)) (now (input .entry)) (now (out .entry)) offset) × (now (state .exit) ≡ sendState (now (state .entry)) (now (input .entry)) (now (out .entry)) offset) × (now (out .exit) ≡ sendOut (now (state .entry)) (now (input .entry)) (now (out .entry)) offset) ⌝ }
 {
-    if state.len() < 16 {
-        return 7;
-    }
-    let sent = sender::send(load_sender(state), input, out, offset);
-    put_sent(state, sent)
+    lent_sender::send(state, input, out, offset)
 }
 
 // ---- the track store's calls
@@ -180,7 +128,7 @@ pub extern "C" fn kerambiu_read(
     offset: usize,
     count: &mut [usize],
 ) -> u8
-    ensures { λ r. ⌜ (r ≡ countedNumber (now (count .entry)) (readNumber (now (store .entry)) (length (now (out .entry))) offset)) × (now (out .exit) ≡ countedOut (now (count .entry)) (readResult (now (store .entry)) (now (out .entry)) offset) (now (out .entry))) × (now (count .exit) ≡ countedCounts (now (count .entry)) (readNumber (now (store .entry)) (length (now (out .entry))) offset) (readCount (now (store .entry)) (length (now (out .entry))) offset)) ⌝ }
+    ensures { λ r. ⌜ (r ≡ countedNumber (now (count .entry)) (readNumber (now (store .entry)) (size (now (out .entry))) offset)) × (now (out .exit) ≡ countedOut (now (count .entry)) (readResult (now (store .entry)) (now (out .entry)) offset) (now (out .entry))) × (now (count .exit) ≡ countedCounts (now (count .entry)) (readNumber (now (store .entry)) (size (now (out .entry))) offset) (readCount (now (store .entry)) (size (now (out .entry))) offset)) ⌝ }
 {
     if count.len() < 1 {
         return 7;
@@ -195,7 +143,7 @@ pub extern "C" fn kerambiu_read(
 // Writes the listing of a store into `out`, and how many bytes it has into `count`: 0, or the number that refuses it.
 #[no_mangle]
 pub extern "C" fn kerambiu_list(store: &[u8], out: &mut [u8], count: &mut [usize]) -> u8
-    ensures { λ r. ⌜ (r ≡ countedNumber (now (count .entry)) (listNumber (length (now (out .entry))))) × (now (out .exit) ≡ countedOut (now (count .entry)) (listResult (now (store .entry)) (now (out .entry))) (now (out .entry))) × (now (count .exit) ≡ countedCounts (now (count .entry)) (listNumber (length (now (out .entry)))) (listCount (now (store .entry)) (length (now (out .entry))))) ⌝ }
+    ensures { λ r. ⌜ (r ≡ countedNumber (now (count .entry)) (listNumber (size (now (out .entry))))) × (now (out .exit) ≡ countedOut (now (count .entry)) (listResult (now (store .entry)) (now (out .entry))) (now (out .entry))) × (now (count .exit) ≡ countedCounts (now (count .entry)) (listNumber (size (now (out .entry)))) (listCount (now (store .entry)) (size (now (out .entry))))) ⌝ }
 {
     if count.len() < 1 {
         return 7;

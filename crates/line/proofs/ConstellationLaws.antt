@@ -8,7 +8,6 @@ use lib.IntN.{pos}
 use lib.ListN.{length, getD, List·getD-append}
 use lib.Seq.{getD-append-add}
 use Rattle.line.specs.declared.Point.{Point}
-
 use Rattle.line.specs.Point.{at, sent27, sent32, sentPoint}
 use Rattle.line.specs.Constellation.{sentPoints}
 use Rattle.line.proofs.ByMode.{mode-short, mode-long}

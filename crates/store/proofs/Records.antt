@@ -54,6 +54,10 @@ pub link-later : (i : ℕ) → (i ≡ 0 → ⊥) → linkIn i ≡ 0
 link-later zero h = absurd (h refl)
 link-later (suc i) h = refl
 
+pub next-at : (s : List ℕ) (i : ℕ) → next s i ≡ u16 s (32 * i + linkIn i)
+unfolding next
+next-at s i = rec-u16 s i (linkIn i) (omega (arith, link-small i))
+
 pub next-other : (s : List ℕ) (i k o : ℕ) (vs : List ℕ) → o + length vs ≤ 32 → k ≢ i → next (write s i o vs) k ≡ next s k
 unfolding next
 next-other s i k o vs h ne = ap (λ (r : List ℕ). u16 r (linkIn k)) (rec-write-other s i k o vs h ne)

@@ -1,3 +1,0 @@
-pub mod Receivings
-pub mod Sendings
-pub mod Back

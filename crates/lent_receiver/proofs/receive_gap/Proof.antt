@@ -1,0 +1,44 @@
+use Rattle.receiver.specs.Receiver.{gap}
+use Rattle.lent_receiver.proofs.Receivings.{call-short, call-done}
+use denote.Ref.{now}
+use borrow.Author.Needs.{needs}
+use Rattle.lent_receiver.proofs.receive_gap.Statement.{statement}
+use Rattle.lent_receiver.proofs.receive_gap.Tie as tie
+use Rattle.lent_receiver.proofs.receive_gap.Reads as reads
+use Rattle.lent_receiver.proofs.receive_gap.Lts as lts
+use Rattle.lent_receiver.proofs.hand_back.Reads as hand-back-reads
+use Rattle.lent_receiver.proofs.load_receiver.Reads as load-receiver-reads
+use Rattle.receiver.proofs.receive_gap.Reads as receive-gap-reads
+
+returns : tie.Need-returns
+returns c = let a = c .before .before .before .args in call-short (now (a .state)) (now (a .answer)) (gap (a .n)) (c .if1 .taken)
+
+load-receiver-requires : tie.Need-load-receiver-requires
+load-receiver-requires c κs = search needs
+
+receive-gap-requires : tie.Need-receive-gap-requires
+receive-gap-requires c κs = search needs
+
+hand-back-requires : tie.Need-hand-back-requires
+hand-back-requires c κs = search needs
+
+same-length : tie.Need-same-length
+same-length c = search needs
+
+same-length-2 : tie.Need-same-length-2
+same-length-2 c = search needs
+
+returns-2 : tie.Need-returns-2
+returns-2 c = let a = c .before .before .before .before .before .before .before .before .before .before .before .before .before .args in call-done (now (a .state)) (now (a .answer)) (gap (a .n)) _ _ _ _ _ (c .before .before .before .before .before .before .before .before .before .before .if1 .left) (c .before .before .before .before .before .before .before .before .load-receiver .ensures) (c .before .before .before .before .before .before .before .receive-gap .ensures .0) (c .before .before .before .before .hand-back .ensures)
+
+pub receive-gap-spec : {M : Type 1} → statement M
+receive-gap-spec =
+    tie.close
+    (tie.spec
+    returns
+    load-receiver-requires
+    receive-gap-requires
+    hand-back-requires
+    same-length
+    same-length-2
+    returns-2)

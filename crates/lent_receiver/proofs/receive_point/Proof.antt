@@ -1,0 +1,46 @@
+use Rattle.lent_receiver.proofs.Receivings.{call-short, call-done}
+use denote.Ref.{now}
+use mir.Facts.{toZ-ofZ}
+use Rattle.line.specs.Point.{at}
+use Rattle.receiver.specs.Receiver.{point}
+use borrow.Author.Needs.{needs}
+use Rattle.lent_receiver.proofs.receive_point.Statement.{statement}
+use Rattle.lent_receiver.proofs.receive_point.Tie as tie
+use Rattle.lent_receiver.proofs.receive_point.Reads as reads
+use Rattle.lent_receiver.proofs.receive_point.Lts as lts
+use Rattle.lent_receiver.proofs.hand_back.Reads as hand-back-reads
+use Rattle.lent_receiver.proofs.load_receiver.Reads as load-receiver-reads
+use Rattle.receiver.proofs.receive_point.Reads as receive-point-reads
+
+returns : tie.Need-returns
+returns c = let a = c .before .before .before .args in call-short (now (a .state)) (now (a .answer)) (point (at (a .re) (a .im))) (c .if1 .taken)
+
+load-receiver-requires : tie.Need-load-receiver-requires
+load-receiver-requires c κs = search needs
+
+receive-point-requires : tie.Need-receive-point-requires
+receive-point-requires c κs = search needs
+
+hand-back-requires : tie.Need-hand-back-requires
+hand-back-requires c κs = search needs
+
+same-length : tie.Need-same-length
+same-length c = search needs
+
+same-length-2 : tie.Need-same-length-2
+same-length-2 c = search needs
+
+returns-2 : tie.Need-returns-2
+returns-2 c = let a = c .before .before .before .before .before .before .before .before .before .before .before .before .before .args in let f = c .before .before .before .before .before .before .before .before .before .before .before .before .before .fits in call-done (now (a .state)) (now (a .answer)) (point (at (a .re) (a .im))) _ _ _ _ _ (c .before .before .before .before .before .before .before .before .before .before .if1 .left) (c .before .before .before .before .before .before .before .before .load-receiver .ensures) (rw (toZ-ofZ (f .re), toZ-ofZ (f .im)) at (c .before .before .before .before .before .before .before .receive-point .ensures .0)) (c .before .before .before .before .hand-back .ensures)
+
+pub receive-point-spec : {M : Type 1} → statement M
+receive-point-spec =
+    tie.close
+    (tie.spec
+    returns
+    load-receiver-requires
+    receive-point-requires
+    hand-back-requires
+    same-length
+    same-length-2
+    returns-2)
