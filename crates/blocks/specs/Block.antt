@@ -10,7 +10,7 @@ use lib.ListN.{length}
 use lib.Seq.{sets}
 use Rattle.line.specs.declared.Point.{Point}
 use Rattle.line.specs.Point.{pairs, inRange}
-use Rattle.line.specs.Decide.{decide}
+use Rattle.deciding.specs.Decide.{decide}
 use Rattle.line.specs.Refusal.{need, orNext, accepted}
 use Rattle.receiver.specs.declared.Receiver.{Receiver}
 use Rattle.receiver.specs.declared.Outcome.{Outcome}

@@ -59,7 +59,7 @@ fn take(s: Receiver, y: u8) -> Step
             }
         }
         Reference::State(x) => {
-            let line = line::group_of(s.mode, x, y);
+            let line = coding::group_of(s.mode, x, y);
             let d = scrambler::descramble_group(s.mode, s.role, h, line);
             let after = d.next;
             let plain = 16 * d.unsettled.0 + d.plain;
@@ -88,11 +88,11 @@ fn hear(s: Receiver, re: i16, im: i16) -> Step
     requires { ⌜ refusal s (point (at re im)) ≡ 0 ⌝ }
     ensures { λ r. ⌜ r ≡ step (outcome s (point (at re im))) (next s (point (at re im))) ⌝ }
 {
-    let decision = line::decide(s.mode, re, im);
+    let decision = deciding::decide(s.mode, re, im);
     match decision {
-        line::Decision::State(y) => take(s, y),
-        line::Decision::Origin => lose(s),
-        line::Decision::NoSector => lose(s),
+        deciding::Decision::State(y) => take(s, y),
+        deciding::Decision::Origin => lose(s),
+        deciding::Decision::NoSector => lose(s),
     }
 }
 

@@ -2,16 +2,7 @@ pub mod ByMode
 pub mod Tests
 pub mod TableLaws
 pub mod Signed
-pub mod Bound
 pub mod PointLaws
-pub mod Differences
 pub mod StateLaws
-pub mod CodeLaws
-pub mod RegionLaws
-pub mod SizeLaws
-pub mod ModeLaws
-pub mod Bench
 pub mod RefusalLaws
-pub mod DecideLaws
-pub mod SectorLaws
 pub mod ConstellationLaws

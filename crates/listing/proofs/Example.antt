@@ -6,8 +6,8 @@ use lib.ListN.{replicate}
 use Rattle.line.specs.Table.{entry, rowFrom}
 use Rattle.line.specs.Mode.{isMode, isRole, isState, states, width, regLen, step, quadrant, turn, quarterSteps, face}
 use Rattle.line.specs.Point.{inRange, isOrigin}
-use Rattle.line.specs.Decide.{inFirst, sector, outer, first, turnedAnswer, quarters, decide}
-use Rattle.line.specs.Code.{changes4, changes8, changes16, eighths, turnRow, group}
+use Rattle.deciding.specs.Decide.{inFirst, sector, outer, first, turnedAnswer, quarters, decide}
+use Rattle.coding.specs.Code.{changes4, changes8, changes16, eighths, turnRow, group}
 use Rattle.octets.specs.Number.{signed}
 use Rattle.scrambler.specs.Register.{back, nearTap, push, registerOk}
 use Rattle.scrambler.specs.Scramble.{mix}

@@ -8,12 +8,12 @@ use native.Mathlib.Omega.{arith}
 use borrow.Author.Tests.{leb-true, le-leb}
 use lib.Dec.{T, leb, eqb}
 use lib.ListN.{getD, drop}
-use Rattle.line.specs.declared.Decision.{Decision}
-use Rattle.line.specs.declared.Decision.the-variants.{State, Origin, NoSector}
+use Rattle.deciding.specs.declared.Decision.{Decision}
+use Rattle.deciding.specs.declared.Decision.the-variants.{State, Origin, NoSector}
 use Rattle.line.specs.Mode.{isMode, isRole}
 use Rattle.line.specs.Point.{inRange}
-use Rattle.line.specs.Decide.{decide}
-use Rattle.line.proofs.SectorLaws.{never-no-sector}
+use Rattle.deciding.specs.Decide.{decide}
+use Rattle.deciding.proofs.SectorLaws.{never-no-sector}
 use Rattle.line.specs.Refusal.{orNext, accepted}
 use Rattle.line.proofs.RefusalLaws.{need-intro}
 use Rattle.octets.specs.Number.{u32, zeros}

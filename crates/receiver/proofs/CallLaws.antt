@@ -8,12 +8,12 @@ use native.Mathlib.Omega.{arith}
 use lib.Dec.{T, eqb, eqb→eq}
 use lib.Pow.{pow-pos}
 use Rattle.line.specs.declared.Point.{Point}
-use Rattle.line.specs.declared.Decision.{Decision}
-use Rattle.line.specs.declared.Decision.the-variants.{State, Origin, NoSector}
+use Rattle.deciding.specs.declared.Decision.{Decision}
+use Rattle.deciding.specs.declared.Decision.the-variants.{State, Origin, NoSector}
 use Rattle.line.specs.Mode.{isMode, isRole, isState, width, face}
 use Rattle.line.specs.Point.{isOrigin}
-use Rattle.line.specs.Decide.{decide}
-use Rattle.line.specs.Code.{group}
+use Rattle.deciding.specs.Decide.{decide}
+use Rattle.coding.specs.Code.{group}
 use Rattle.line.specs.Refusal.{orNext, accepted}
 use Rattle.line.proofs.RefusalLaws.{need-met, need-rest, need-intro, next-first, next-rest}
 use Rattle.line.proofs.TableLaws.{and-left, and-right, and-intro}
@@ -26,7 +26,7 @@ use Rattle.receiver.specs.declared.Reference.the-variants.{Nothing as no
 use Rattle.receiver.specs.declared.Receiver.{Receiver}
 use Rattle.receiver.specs.Receiver.{freshReceiver, Event, point, gap, isFresh, fieldsOk, freshRefusal, stateRefusal, refusal, refused, reference, lost, lineBits, stateAnswer, pointAnswer, eventAnswer, answer, intervals, placeAfter, forgotten, stateLine, stateNext, pointNext, eventNext, next}
 use Rattle.receiver.specs.Calls.{after, Heard, heard, heardIntervals}
-use Rattle.line.proofs.DecideLaws.{Off, decide-off}
+use Rattle.coding.proofs.DecideLaws.{Off, decide-off}
 use Rattle.receiver.proofs.OutcomeLaws.{next-placed}
 
 -- NUMBERS 1, 2 AND 4

@@ -5,8 +5,8 @@ use lib.IntN.{pos, negsuc}
 use Rattle.line.specs.Table.{entry, rowFrom}
 use Rattle.line.specs.Mode.{isMode, isRole, isState, states, width, regLen, step, quadrant, turn, quarterSteps, face}
 use Rattle.line.specs.Point.{at, inRange, isOrigin}
-use Rattle.line.specs.Decide.{inFirst, sector, outer, first, turnedAnswer, quarters, decide}
-use Rattle.line.specs.Code.{changes4, changes8, changes16, eighths, turnRow, group}
+use Rattle.deciding.specs.Decide.{inFirst, sector, outer, first, turnedAnswer, quarters, decide}
+use Rattle.coding.specs.Code.{changes4, changes8, changes16, eighths, turnRow, group}
 use Rattle.scrambler.specs.Register.{back, nearTap, push, registerOk}
 use Rattle.scrambler.specs.Scramble.{mix, unsettled}
 use Rattle.receiver.specs.Receiver.{freshReceiver, Event, point, gap, isFresh, fieldsOk, freshRefusal, stateRefusal, hasRoom, eventRefusal, refusal, reference, decoded, lost, stateAnswer, pointAnswer, eventAnswer, answer, forgotten, stateLine, stateNext, pointNext, eventNext, next}

@@ -9,12 +9,12 @@ use borrow.Author.Tests.{le-leb, lt-leb}
 use lib.IntN.{ℤ}
 use lib.Dec.{T, eqb}
 use Rattle.line.specs.declared.Point.{Point}
-use Rattle.line.specs.declared.Decision.{Decision}
-use Rattle.line.specs.declared.Decision.the-variants.{State, Origin, NoSector}
+use Rattle.deciding.specs.declared.Decision.{Decision}
+use Rattle.deciding.specs.declared.Decision.the-variants.{State, Origin, NoSector}
 use Rattle.line.specs.Mode.{isMode, isRole, isState, width, face}
 use Rattle.line.specs.Point.{at, inRange}
-use Rattle.line.specs.Decide.{decide}
-use Rattle.line.specs.Code.{group}
+use Rattle.deciding.specs.Decide.{decide}
+use Rattle.coding.specs.Code.{group}
 use Rattle.line.specs.Refusal.{need, orNext, accepted}
 use Rattle.line.proofs.RefusalLaws.{need-met, need-rest, next-rest}
 use Rattle.scrambler.specs.declared.Register.{Register}

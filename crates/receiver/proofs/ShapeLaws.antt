@@ -6,11 +6,11 @@ use mathlib.Core.List.{List, [], _∷_, _++_}
 use lib.Dec.{T}
 use Rattle.line.specs.Table.{every}
 use Rattle.line.specs.declared.Point.{Point}
-use Rattle.line.specs.declared.Decision.{Decision}
-use Rattle.line.specs.declared.Decision.the-variants.{State, Origin, NoSector}
+use Rattle.deciding.specs.declared.Decision.{Decision}
+use Rattle.deciding.specs.declared.Decision.the-variants.{State, Origin, NoSector}
 use Rattle.line.specs.Mode.{isMode, isState}
 use Rattle.line.specs.Point.{isOrigin}
-use Rattle.line.specs.Decide.{decide}
+use Rattle.deciding.specs.Decide.{decide}
 use Rattle.line.specs.Refusal.{accepted}
 use Rattle.line.proofs.RefusalLaws.{next-rest}
 use Rattle.line.proofs.TableLaws.{and-intro}
@@ -24,7 +24,7 @@ use Rattle.receiver.specs.declared.Receiver.{Receiver}
 use Rattle.receiver.specs.Receiver.{receiver, Event, point, gap, stateRefusal, inSector, refusal, refused, decoded, lineBits, stateAnswer, pointAnswer, eventAnswer, answer, stateLine, stateNext, pointNext, eventNext, next}
 use Rattle.receiver.specs.Calls.{Heard, heard, All, IsPoint, decidedAs, decidedStates, linesHeard, row, dataHeard}
 use Rattle.receiver.specs.Turn.{lines}
-use Rattle.line.proofs.DecideLaws.{Off}
+use Rattle.coding.proofs.DecideLaws.{Off}
 use Rattle.receiver.proofs.OutcomeLaws.{in-sector}
 use Rattle.receiver.proofs.CallLaws.{Valid, accepted-valid, accepted-off, line-register}
 

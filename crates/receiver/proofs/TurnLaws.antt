@@ -8,14 +8,14 @@ use lib.Dec.{T}
 use lib.ListN.{length}
 use Rattle.line.specs.Table.{every}
 use Rattle.line.specs.Mode.{isMode, width, face, turns, isState}
-use Rattle.line.specs.Code.{group, coded}
+use Rattle.coding.specs.Code.{group, coded}
 use Rattle.line.proofs.TableLaws.{and-left, and-right}
-use Rattle.line.proofs.ModeLaws.{OfPair, of-state}
+use Rattle.coding.proofs.ModeLaws.{OfPair, of-state}
 use Rattle.scrambler.specs.Bits.{bits, value}
 use Rattle.scrambler.proofs.BitLaws.{value-bits}
 use Rattle.receiver.specs.Receiver.{lineBits}
 use Rattle.receiver.specs.Turn.{lines, linesOf, Turned}
-use Rattle.line.proofs.DecideLaws.{turns-state}
+use Rattle.coding.proofs.DecideLaws.{turns-state}
 
 module _ (m : ℕ) (hm : T (isMode m)) where
   pair : (x y : ℕ) → T (isState m x) → T (isState m y) → OfPair m x y

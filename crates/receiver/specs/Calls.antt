@@ -4,10 +4,10 @@ use mathlib.Core.Bool.{Bool, false, not}
 use mathlib.Core.List.{List, [], _∷_, _++_, map}
 use lib.Dec.{T}
 use lib.ListN.{drop}
-use Rattle.line.specs.declared.Decision.{Decision}
-use Rattle.line.specs.declared.Decision.the-variants.{State, Origin, NoSector}
+use Rattle.deciding.specs.declared.Decision.{Decision}
+use Rattle.deciding.specs.declared.Decision.the-variants.{State, Origin, NoSector}
 use Rattle.line.specs.Point.{isOrigin}
-use Rattle.line.specs.Decide.{decide}
+use Rattle.deciding.specs.Decide.{decide}
 use Rattle.line.specs.Refusal.{accepted}
 use Rattle.scrambler.specs.Scramble.{Datum}
 use Rattle.receiver.specs.declared.Receiver.{Receiver}

@@ -4,12 +4,12 @@ use mathlib.Core.Bool.{Bool, true, false, _&&_}
 use mathlib.Core.List.{List}
 use lib.Dec.{eqb, leb}
 use Rattle.line.specs.declared.Point.{Point}
-use Rattle.line.specs.declared.Decision.{Decision}
-use Rattle.line.specs.declared.Decision.the-variants.{State, Origin, NoSector}
+use Rattle.deciding.specs.declared.Decision.{Decision}
+use Rattle.deciding.specs.declared.Decision.the-variants.{State, Origin, NoSector}
 use Rattle.line.specs.Mode.{isMode, isRole, isState, width, face}
 use Rattle.line.specs.Point.{inRange}
-use Rattle.line.specs.Decide.{decide}
-use Rattle.line.specs.Code.{group}
+use Rattle.deciding.specs.Decide.{decide}
+use Rattle.coding.specs.Code.{group}
 use Rattle.line.specs.Refusal.{need, orNext, accepted}
 use Rattle.scrambler.specs.declared.Register.{Register}
 use Rattle.scrambler.specs.Bits.{bits}

@@ -146,7 +146,7 @@ fn take_state(s: Receiver, y: u8) -> Outcome
             Outcome::Referenced(next)
         }
         Reference::State(x) => {
-            let line = line::group_of(s.mode, x, y);
+            let line = coding::group_of(s.mode, x, y);
             let d = scrambler::descramble_group(s.mode, s.role, h, line);
             let plain = d.plain;
             let unsettled = d.unsettled;
@@ -174,11 +174,11 @@ pub fn receive_point(s: Receiver, re: i16, im: i16) -> Outcome
         return Outcome::Refused(fault);
     }
     if line::in_range(re, im) {
-        let decision = line::decide(s.mode, re, im);
+        let decision = deciding::decide(s.mode, re, im);
         match decision {
-            line::Decision::State(y) => take_state(s, y),
-            line::Decision::Origin => lose(s, 1),
-            line::Decision::NoSector => Outcome::Refused(10),
+            deciding::Decision::State(y) => take_state(s, y),
+            deciding::Decision::Origin => lose(s, 1),
+            deciding::Decision::NoSector => Outcome::Refused(10),
         }
     } else {
         Outcome::Refused(8)

@@ -1,5 +1,5 @@
 -- The bench points hold. Assumes nothing.
-use Rattle.line.proofs.Bench.{line-bench}
+use Rattle.coding.proofs.Bench.{line-bench}
 use Rattle.training.proofs.Bench.{training-bench}
 use Rattle.resync.specs.Bench.{BenchPoints}
 

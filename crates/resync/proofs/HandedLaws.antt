@@ -11,13 +11,13 @@ use lib.IntN.{ℤ, pos}
 use lib.ListN.{length, getD, take, drop, length-map, length-append}
 use lib.Seq.{sets, drop-at, take-at, drop-nil}
 use Rattle.line.proofs.RefusalLaws.{need-met, need-rest}
-use Rattle.line.specs.declared.Decision.{Decision}
-use Rattle.line.specs.declared.Decision.the-variants.{State, Origin, NoSector}
+use Rattle.deciding.specs.declared.Decision.{Decision}
+use Rattle.deciding.specs.declared.Decision.the-variants.{State, Origin, NoSector}
 use Rattle.line.specs.declared.Point.{Point}
 use Rattle.line.specs.Mode.{width, regLen, face}
 use Rattle.line.specs.Point.{at}
-use Rattle.line.specs.Decide.{decide}
-use Rattle.line.specs.Code.{group}
+use Rattle.deciding.specs.Decide.{decide}
+use Rattle.coding.specs.Code.{group}
 use Rattle.scrambler.specs.declared.Register.{Register}
 use Rattle.scrambler.specs.Bits.{bits}
 use Rattle.scrambler.specs.Scramble.{Datum, settled, descramble}

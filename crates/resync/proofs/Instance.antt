@@ -7,8 +7,8 @@ use lib.ListN.{replicate}
 use Rattle.line.specs.Table.{entry, rowFrom}
 use Rattle.line.specs.Mode.{isMode, isRole, width, regLen, step, states, isState, quadrant, turn, quarterSteps, face}
 use Rattle.line.specs.Point.{inRange, isOrigin, sent27, sentPoint}
-use Rattle.line.specs.Decide.{inFirst, first, turnedAnswer, quarters, decide}
-use Rattle.line.specs.Code.{changes4, coded, eighths, group}
+use Rattle.deciding.specs.Decide.{inFirst, first, turnedAnswer, quarters, decide}
+use Rattle.coding.specs.Code.{changes4, coded, eighths, group}
 use Rattle.scrambler.specs.Bits.{isBit}
 use Rattle.scrambler.specs.Register.{back, nearTap, push, registerOk}
 use Rattle.scrambler.specs.Scramble.{mix}

@@ -9,15 +9,15 @@ use native.Mathlib.Omega.{arith}
 use lib.Dec.{T}
 use lib.ListN.{length, drop, length-map}
 use lib.Seq.{drop-nil}
-use Rattle.line.specs.declared.Decision.{Decision}
-use Rattle.line.specs.declared.Decision.the-variants.{State, Origin, NoSector}
+use Rattle.deciding.specs.declared.Decision.{Decision}
+use Rattle.deciding.specs.declared.Decision.the-variants.{State, Origin, NoSector}
 use Rattle.line.specs.Table.{every}
 use Rattle.line.specs.Mode.{isMode, isState, width, regLen, face}
-use Rattle.line.specs.Decide.{decide}
-use Rattle.line.specs.Code.{group}
+use Rattle.deciding.specs.Decide.{decide}
+use Rattle.coding.specs.Code.{group}
 use Rattle.line.specs.Refusal.{accepted}
 use Rattle.line.proofs.ByMode.{by-all}
-use Rattle.line.proofs.ModeLaws.{mode-cases}
+use Rattle.coding.proofs.ModeLaws.{mode-cases}
 use Rattle.line.proofs.TableLaws.{and-intro}
 use Rattle.scrambler.specs.declared.Register.{Register}
 use Rattle.scrambler.specs.Bits.{bits}

@@ -4,8 +4,8 @@ use mathlib.Core.List.{List, [], _∷_}
 use Prim.Native.Nat.{ℕ}
 use lib.IntN.{ℤ, pos, negsuc}
 use Rattle.line.specs.Mode.{face}
-use Rattle.line.specs.Code.{coded}
-use Rattle.line.specs.Bench.{row, AllDecided}
+use Rattle.coding.specs.Code.{coded}
+use Rattle.coding.specs.Bench.{row, AllDecided}
 use Rattle.training.specs.Bench.{TrainingBench}
 
 -- every statement of a list holds

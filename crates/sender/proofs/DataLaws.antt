@@ -11,14 +11,14 @@ use lib.IntN.{ℤ, pos}
 use lib.ListN.{length, getD, set, length-set}
 use lib.Seq.{sets, getD-set-same, getD-set-other}
 use Rattle.line.specs.declared.Point.{Point}
-use Rattle.line.specs.declared.Decision.{Decision}
-use Rattle.line.specs.declared.Decision.the-variants.{State, Origin, NoSector}
+use Rattle.deciding.specs.declared.Decision.{Decision}
+use Rattle.deciding.specs.declared.Decision.the-variants.{State, Origin, NoSector}
 use Rattle.line.specs.Table.{every}
 use Rattle.line.specs.Mode.{isMode, width, regLen, face}
 use Rattle.line.specs.Point.{at, sentPoint}
-use Rattle.line.specs.Decide.{decide}
-use Rattle.line.specs.Code.{coded, group}
-use Rattle.line.proofs.ModeLaws.{OfGroup, OfState, of-state}
+use Rattle.deciding.specs.Decide.{decide}
+use Rattle.coding.specs.Code.{coded, group}
+use Rattle.coding.proofs.ModeLaws.{OfGroup, OfState, of-state}
 use Rattle.scrambler.specs.declared.Register.{Register}
 use Rattle.scrambler.specs.Bits.{isBit, bits, value}
 use Rattle.scrambler.specs.Register.{pushes}

@@ -14,7 +14,7 @@ use lib.ListN.{length, getD, take, drop, set, length-set, length-take, length-dr
 use lib.Seq.{drop-drop, drop-length, sets}
 use Rattle.line.specs.Table.{every}
 use Rattle.line.specs.Mode.{width, face}
-use Rattle.line.specs.Code.{coded}
+use Rattle.coding.specs.Code.{coded}
 use Rattle.line.specs.declared.Point.{Point}
 use Rattle.line.specs.Point.{at, sentPoint}
 use Rattle.line.specs.Constellation.{sentPoints}

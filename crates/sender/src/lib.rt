@@ -136,7 +136,7 @@ fn send_group(s: Sender, plain: u8) -> Sender
     Sender {
         mode: s.mode,
         role: s.role,
-        reference: line::next_state(s.mode, s.reference, d.line),
+        reference: coding::next_state(s.mode, s.reference, d.line),
         line,
     }
 }

@@ -2,7 +2,7 @@
 use mathlib.Core.Path.{refl}
 use Rattle.line.specs.Table.{entry, rowFrom}
 use Rattle.line.specs.Mode.{width, regLen, quadrant, face}
-use Rattle.line.specs.Code.{changes4, changes8, changes16, coded, eighths, turnRow, group}
+use Rattle.coding.specs.Code.{changes4, changes8, changes16, coded, eighths, turnRow, group}
 use Rattle.scrambler.specs.Register.{back, nearTap, push}
 use Rattle.scrambler.specs.Scramble.{mix}
 use Rattle.training.specs.Coder.{coding}

@@ -7,9 +7,9 @@ use native.Mathlib.Omega.{arith}
 use lib.Dec.{T}
 use lib.ListN.{length, replicate}
 use Rattle.line.specs.Mode.{isMode, width, regLen, isState, face}
-use Rattle.line.specs.Code.{coded}
+use Rattle.coding.specs.Code.{coded}
 use Rattle.line.proofs.ByMode.{by-all}
-use Rattle.line.proofs.ModeLaws.{OfGroup, of-state}
+use Rattle.coding.proofs.ModeLaws.{OfGroup, of-state}
 use Rattle.scrambler.specs.declared.Register.{Register}
 use Rattle.scrambler.specs.declared.Scrambled.{Scrambled}
 use Rattle.scrambler.specs.Bits.{bits, value}

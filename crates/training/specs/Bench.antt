@@ -4,7 +4,7 @@ use mathlib.Core.Path.{_≡_}
 use mathlib.Core.List.{List, [], _∷_, _++_}
 use lib.ListN.{replicate}
 use Rattle.line.specs.Mode.{face}
-use Rattle.line.specs.Code.{eighths, group}
+use Rattle.coding.specs.Code.{eighths, group}
 use Rattle.training.specs.declared.Coder.{Coder}
 use Rattle.training.specs.Training.{reversals, changes, A, C, train, start, trained, trainedStates}
 

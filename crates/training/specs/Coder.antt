@@ -5,7 +5,7 @@ use mathlib.Core.List.{List, [], _∷_}
 use lib.IntN.{ℤ}
 use Rattle.line.specs.declared.Point.{Point}
 use Rattle.line.specs.Mode.{face}
-use Rattle.line.specs.Code.{coded}
+use Rattle.coding.specs.Code.{coded}
 use Rattle.line.specs.Point.{sentPoint}
 use Rattle.scrambler.specs.declared.Register.{Register}
 use Rattle.scrambler.specs.Bits.{value}

@@ -31,7 +31,7 @@ fn code_group(mode: u8, role: u8, c: Coder, plain: u8) -> Coder
     let s = scrambler::scramble_group(mode, role, register, plain);
     let next = s.next;
     Coder {
-        reference: line::next_state(mode, c.reference, s.line),
+        reference: coding::next_state(mode, c.reference, s.line),
         line: next,
     }
 }

@@ -146,16 +146,16 @@ fn print_decided(mode: u8, re: i16) {
     print_coordinate(re);
     print_text(b" ");
     for i in 0..48 {
-        print_decision(line::decide(mode, re, coordinates[i]));
+        print_decision(deciding::decide(mode, re, coordinates[i]));
     }
     print_text(b"\n");
 }
 
-fn print_decision(decision: line::Decision) {
+fn print_decision(decision: deciding::Decision) {
     match decision {
-        line::Decision::State(state) => print_digit(state),
-        line::Decision::Origin => print_text(b"."),
-        line::Decision::NoSector => print_text(b"?"),
+        deciding::Decision::State(state) => print_digit(state),
+        deciding::Decision::Origin => print_text(b"."),
+        deciding::Decision::NoSector => print_text(b"?"),
     }
 }
 
@@ -166,7 +166,7 @@ fn print_code(mode: u8, reference: u8) {
     print_number(mode);
     print_number(reference);
     for group in 0..groups {
-        print_digit(line::next_state(mode, reference, group));
+        print_digit(coding::next_state(mode, reference, group));
     }
     print_text(b"\n");
 }
@@ -178,7 +178,7 @@ fn print_group(mode: u8, reference: u8) {
     print_number(reference);
     for state in 0..16 {
         if line::state_ok(mode, state) {
-            print_digit(line::group_of(mode, reference, state));
+            print_digit(coding::group_of(mode, reference, state));
         }
     }
     print_text(b"\n");

@@ -1,0 +1,109 @@
+-- What the code computes of the differential code is what the tables say. Assumes nothing.
+use mathlib.Core.Path.{_≡_, sym, ap, ap₂, _∙_}
+use Prim.Native.Nat.{ℕ, _+_, _*_, _-_, _/_, _%_, _<_, _≤_}
+use native.Mathlib.Omega.{arith}
+use mathlib.Core.Bool.{Bool, cond}
+use lib.Dec.{eqb, eqb→eq}
+use lib.ListN.{getD}
+use Rattle.line.specs.Table.{entry, rowFrom, firstRow, below, every}
+use Rattle.line.specs.Mode.{face, quadrant}
+use Rattle.coding.specs.Code.{changes4, changes8, changes16, coded, eighths, turnRow, group}
+use Rattle.line.proofs.ByMode.{mode-1, mode-2, mode-3, mode-4}
+use Rattle.line.proofs.TableLaws.{below-at, row-below}
+
+module _ (m x g : ℕ) where
+  pub coded-1 : (c : ℕ) → m ≤ 1 → c ≡ entry changes4 g → (x % 8 + 2 * c) % 8 ≡ coded m (face m x) g
+  unfolding coded face
+  coded-1 c h e =
+      (let z : (x % 8 + 2 * c) % 8 ≡ (x + 2 * c) % 8 = omega arith in z)
+      ∙ ap₂ (λ (y k : ℕ). (y + 2 * k) % 8) (sym (mode-1 x x x (quadrant x) m h)) e
+      ∙ sym (mode-1 _ _ _ _ m h)
+
+  pub coded-2 : (c : ℕ) → m ≡ 2 → c ≡ entry changes8 g → (x % 8 + c) % 8 ≡ coded m (face m x) g
+  unfolding coded face
+  coded-2 c h e =
+      (let z : (x % 8 + c) % 8 ≡ (x + c) % 8 = omega arith in z)
+      ∙ ap₂ (λ (y k : ℕ). (y + k) % 8) (sym (mode-2 x x x (quadrant x) m h)) e
+      ∙ sym (mode-2 _ _ _ _ m h)
+
+  pub coded-3 : (c : ℕ) → m ≡ 3 → c ≡ entry changes16 (4 * g + x / 4 % 4) → 4 * c + 1 ≡ coded m (face m x) g
+  unfolding coded face quadrant
+  coded-3 c h e =
+      ap (λ (k : ℕ). 4 * k + 1) e
+      ∙ ap (λ (y : ℕ). 4 * entry changes16 (4 * g + y / 4 % 4) + 1) (sym (mode-3 x x x (x / 4 % 4) m h))
+      ∙ sym (mode-3 _ _ _ _ m h)
+
+  pub coded-4 : (c : ℕ) → 1 < m → (m ≡ 2 → ⊥) → (m ≡ 3 → ⊥) → c ≡ entry changes16 (4 * (g / 4) + x / 4 % 4) → 4 * c + g % 4 ≡ coded m (face m x) g
+  unfolding coded face quadrant
+  coded-4 c h p q e =
+      let z : x / 4 % 4 ≡ x / 4 % 4 % 4 = omega arith in
+      ap (λ (k : ℕ). 4 * k + g % 4) e
+      ∙ ap (λ (y : ℕ). 4 * entry changes16 (4 * (g / 4) + y) + g % 4) z
+      ∙ ap (λ (y : ℕ). 4 * entry changes16 (4 * (g / 4) + y % 4) + g % 4) (sym (mode-4 x x x (x / 4 % 4) m h p q))
+      ∙ sym (mode-4 _ _ _ _ m h p q)
+
+-- just one row of a table holds what is looked for, so that the rows that hold it add up to the first: one computed test for each table
+abbrev if-row : ℕ → ℕ → ℕ → ℕ
+if-row held x row = cond (eqb held x) row 0
+
+abbrev Found : ℕ → ℕ → (ℕ → Bool) → Type 0
+Found r n f = (r ≡ firstRow f n) × (r ≤ n)
+
+found : (r n : ℕ) (f : ℕ → Bool) → r ≡ firstRow f n → Found r n f
+found r n f e = (e, let b : firstRow f n ≤ 0 + n = row-below f 0 n in omega arith)
+
+pub row4-law : (x a b c : ℕ) → x < 4 → a ≡ if-row 1 x 1 → b ≡ if-row 3 x 2 → c ≡ if-row 2 x 3 → Found (a + b + c) 3 (λ g. eqb (entry changes4 g) x)
+unfolding entry rowFrom changes4
+row4-law x a b c h p q r =
+    found _ 3 (λ g. eqb (entry changes4 g) x)
+    (ap₂ (λ (i j : ℕ). i + j) (ap₂ (λ (i j : ℕ). i + j) p q) r
+    ∙ eqb→eq _ _ (below-at (λ y. eqb (if-row 1 y 1 + if-row 3 y 2 + if-row 2 y 3) (firstRow (λ g. eqb (entry changes4 g) y) 3)) 4 tt x h))
+
+pub row8-law : (x a b c d e f g : ℕ) → x < 8 → a ≡ if-row 0 x 1 → b ≡ if-row 2 x 2 → c ≡ if-row 3 x 3 → d ≡ if-row 6 x 4 → e ≡ if-row 7 x 5 → f ≡ if-row 5 x 6
+    → g ≡ if-row 4 x 7 → Found (a + b + c + (d + e) + f + g) 7 (λ i. eqb (entry changes8 i) x)
+unfolding entry rowFrom changes8
+row8-law x a b c d e f g h pa pb pc pd pe pf pg =
+    found _ 7 (λ i. eqb (entry changes8 i) x)
+    (ap₂ (λ (i j : ℕ). i + j) (ap₂ (λ (i j : ℕ). i + j) (ap₂ (λ (i j : ℕ). i + j) (ap₂ (λ (i j : ℕ). i + j) (ap₂ (λ (i j : ℕ). i + j) pa pb) pc) (ap₂ (λ (i j : ℕ). i + j) pd pe)) pf) pg
+    ∙ eqb→eq _ _ (below-at (λ y. eqb (if-row 0 y 1 + if-row 2 y 2 + if-row 3 y 3 + (if-row 6 y 4 + if-row 7 y 5) + if-row 5 y 6 + if-row 4 y 7)
+    (firstRow (λ i. eqb (entry changes8 i) y) 7)) 8 tt x h))
+
+pub row16-law : (y z a b c : ℕ) → y < 4 → z < 4 → a ≡ if-row (getD changes16 (4 + y) 0) z 1 → b ≡ if-row (getD changes16 (8 + y) 0) z 2
+    → c ≡ if-row (getD changes16 (12 + y) 0) z 3 → (a + b + c ≡ turnRow y z) × (a + b + c ≤ 3)
+unfolding entry rowFrom changes16 turnRow
+row16-law y z a b c h k p q r =
+    found _ 3 (λ g. eqb (entry changes16 (4 * g + y)) z)
+    (ap₂ (λ (i j : ℕ). i + j) (ap₂ (λ (i j : ℕ). i + j) p q) r
+    ∙ eqb→eq _ _ (below-at (λ v. sum y v) 4 (below-at (λ u. every (λ v. sum u v) (below 4)) 4 tt y h) z k))
+  where
+    sum : ℕ → ℕ → Bool
+    sum u v = eqb (if-row (getD changes16 (4 + u) 0) v 1 + if-row (getD changes16 (8 + u) 0) v 2 + if-row (getD changes16 (12 + u) 0) v 3) (turnRow u v)
+
+module _ (m x s : ℕ) where
+  abbrev turn8 : ℕ
+  turn8 = (s % 8 + 8 - x % 8) % 8
+
+  pub group-1 : (r : ℕ) → m ≤ 1 → r ≡ firstRow (λ g. eqb (entry changes4 g) (turn8 / 2)) 3 → r ≡ group m (face m x) s
+  unfolding group face eighths
+  group-1 r h e =
+      e ∙ ap (λ (q : ℕ). firstRow (λ g. eqb (entry changes4 g) ((s % 8 + 8 - q % 8) % 8 / 2)) 3) (sym (mode-1 x x x (quadrant x) m h))
+      ∙ sym (mode-1 _ _ _ _ m h)
+
+  pub group-2 : (r : ℕ) → m ≡ 2 → r ≡ firstRow (λ g. eqb (entry changes8 g) turn8) 7 → r ≡ group m (face m x) s
+  unfolding group face eighths
+  group-2 r h e =
+      e ∙ ap (λ (q : ℕ). firstRow (λ g. eqb (entry changes8 g) ((s % 8 + 8 - q % 8) % 8)) 7) (sym (mode-2 x x x (quadrant x) m h))
+      ∙ sym (mode-2 _ _ _ _ m h)
+
+  pub group-3 : (r : ℕ) → m ≡ 3 → r ≡ turnRow (x / 4 % 4) (s / 4 % 4) → r ≡ group m (face m x) s
+  unfolding group face quadrant
+  group-3 r h e =
+      e ∙ ap (λ (q : ℕ). turnRow (q / 4 % 4) (s / 4 % 4)) (sym (mode-3 x x x (x / 4 % 4) m h)) ∙ sym (mode-3 _ _ _ _ m h)
+
+  pub group-4 : (r : ℕ) → 1 < m → (m ≡ 2 → ⊥) → (m ≡ 3 → ⊥) → r ≡ turnRow (x / 4 % 4) (s / 4 % 4) → 4 * r + s % 4 ≡ group m (face m x) s
+  unfolding group face quadrant
+  group-4 r h p q e =
+      let z : x / 4 % 4 ≡ x / 4 % 4 % 4 = omega arith in
+      ap (λ (k : ℕ). 4 * k + s % 4) (e ∙ ap (λ (y : ℕ). turnRow y (s / 4 % 4)) z)
+      ∙ ap (λ (y : ℕ). 4 * turnRow (y % 4) (s / 4 % 4) + s % 4) (sym (mode-4 x x x (x / 4 % 4) m h p q))
+      ∙ sym (mode-4 _ _ _ _ m h p q)

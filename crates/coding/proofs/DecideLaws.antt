@@ -1,0 +1,199 @@
+-- Deciding: each point off the origin lies in exactly one turn of the first region, the answer is a state of the mode, and a turn of
+-- the point by 90° turns the answer. Assumes nothing.
+use mathlib.Core.Path.{_≡_, refl, sym, ap, ap₂, _∙_, subst}
+use mathlib.Core.Bool.{Bool, true, false, _&&_, cond}
+use Prim.Native.Nat.{ℕ, zero, suc, _+_, _*_, _-_, _/_, _%_, _<_, _≤_}
+use native.Mathlib.Omega.{arith}
+use native.Mathlib.Decide.{decLe}
+use lib.Dec.{T, eqb, leb, ltb, eqb→eq}
+use lib.IntN.{ℤ, pos, negsuc, natAbs, _+ℤ_, _*ℤ_}
+use lib.Signed.{ltZ}
+use Rattle.line.specs.declared.Point.{Point}
+use Rattle.deciding.specs.declared.Decision.{Decision}
+use Rattle.deciding.specs.declared.Decision.the-variants.{State, Origin, NoSector}
+use Rattle.line.specs.Mode.{isMode, states, isState, step, turn, turns, quarterSteps, wholeSteps}
+use Rattle.line.specs.Point.{at, isOrigin, turned, turnedBy}
+use Rattle.deciding.specs.Decide.{square, sector, outer, first, turnedAnswer, quarters, decideBy, decide}
+use Rattle.line.proofs.TableLaws.{below-at}
+use Rattle.coding.proofs.ModeLaws.{mode-cases, of-state}
+use Rattle.deciding.proofs.RegionLaws.{Turn, before, turn-four, origin-turned, turn-before, turn-by, turn-add, turn-decide, off-turned, base, turn-1, turn-1-past, turn-2, turn-3, turn-3-past, turn-4, turn-4-axis}
+
+-- THE REGIONS
+
+-- one turn of the point lies in the first region, and no other
+pub record InOne (m : ℕ) (z : Point) : Type 0 where
+  pub by : ℕ
+  pub small : by < 4
+  pub turn : Turn m z by
+
+base-in-one : (m a b : ℕ) → InOne m (base m a b)
+base-in-one m a b = by-mode m
+  where
+    one : (j : ℕ) → j < 4 → Turn m (base m a b) j → InOne m (base m a b)
+    one j h t = record { by = j; small = h; turn = t }
+
+    mode-1 : m ≤ 1 → Dec (b ≤ suc a) → InOne m (base m a b)
+    mode-1 h (yes p) = one 0 (omega arith) (turn-1 m a b h p)
+    mode-1 h (no p) = one 3 (omega arith) (turn-1-past m a b h (omega (arith, p)))
+
+    mode-3 : m ≡ 3 → Dec (b ≤ 2 * suc a) → InOne m (base m a b)
+    mode-3 h (yes p) = one 0 (omega arith) (turn-3 m a b h p)
+    mode-3 h (no p) = one 3 (omega arith) (turn-3-past m a b h (omega (arith, p)))
+
+    mode-4 : 1 < m → (m ≡ 2 → ⊥) → (m ≡ 3 → ⊥) → Dec (b ≤ 0) → InOne m (base m a b)
+    mode-4 h f g (yes p) = one 1 (omega arith) (turn-4-axis m a b h f g (omega arith))
+    mode-4 h f g (no p) = one 0 (omega arith) (turn-4 m a b h f g (omega (arith, p)))
+
+    by-mode : (n : ℕ) → InOne m (base m a b)
+    by-mode n = go (decLe m 1) (decLe m 2) (decLe m 3)
+      where
+        go : Dec (m ≤ 1) → Dec (m ≤ 2) → Dec (m ≤ 3) → InOne m (base m a b)
+        go (yes p) q r = mode-1 p (decLe b (suc a))
+        go (no p) (yes q) r = one 0 (omega arith) (turn-2 m a b (omega (arith, p)))
+        go (no p) (no q) (yes r) = mode-3 (omega (arith, q)) (decLe b (2 * suc a))
+        go (no p) (no q) (no r) = mode-4 (omega (arith, r)) (λ e. omega (arith, r)) (λ e. omega (arith, r)) (decLe b 0)
+
+turned-in-one : (m k a b : ℕ) → InOne m (turnedBy k (base m a b))
+turned-in-one m k a b =
+    let i = base-in-one m a b in
+    record { by = (i .by + 3 * k) % 4; small = omega arith; turn = turn-by m k (base m a b) (i .by) (i .small) (i .turn) }
+
+in-one : (m : ℕ) (re im : ℤ) → isOrigin (at re im) ≡ false → InOne m (at re im)
+unfolding isOrigin
+in-one m (pos zero) (pos zero) o = absurd (subst T o tt)
+in-one m (pos (suc x)) (pos y) o = turned-in-one m 0 x y
+in-one m (pos zero) (pos (suc y)) o = turned-in-one m 1 y 0
+in-one m (negsuc x) (pos (suc y)) o = turned-in-one m 1 y (suc x)
+in-one m (negsuc x) (pos zero) o = turned-in-one m 2 x 0
+in-one m (negsuc x) (negsuc y) o = turned-in-one m 2 x (suc y)
+in-one m (pos zero) (negsuc y) o = turned-in-one m 3 y 0
+in-one m (pos (suc x)) (negsuc y) o = turned-in-one m 3 y (suc x)
+
+pub in-one-region : (m : ℕ) (z : Point) → isOrigin z ≡ false → InOne m z
+in-one-region m z o = in-one m (z .re) (z .im) o
+
+-- THE ANSWER IS A STATE
+
+-- a state of the mode, or no sector
+abbrev pub Off : ℕ → Decision → Type 0
+Off m (State y) = T (isState m y)
+Off m Origin = ⊥
+Off m NoSector = Unit {0}
+
+pub turns-state : (m : ℕ) → T (isMode m) → (k x : ℕ) → T (isState m x) → T (isState m (turns m k x))
+turns-state m hm zero x h = h
+turns-state m hm (suc k) x h = of-state m (turns m k x) hm (turns-state m hm k x h) .turned
+
+either : (m : ℕ) (b : Bool) (c d : Decision) → Off m c → Off m d → Off m (cond b c d)
+either m true c d p q = p
+either m false c d p q = q
+
+sector-off : (z : Point) → Off 2 (sector z)
+unfolding sector isState states
+sector-off z =
+    let s : ℤ = square (z .re +ℤ z .im) in
+    let x : ℤ = pos 2 *ℤ square (z .re) in
+    let y : ℤ = pos 2 *ℤ square (z .im) in
+    let between : Decision = cond (ltZ x s && ltZ y s) (State 1) NoSector in
+    either 2 (ltZ s x) (State 0) (cond (ltZ s y) (State 2) between) tt
+    (either 2 (ltZ s y) (State 2) between tt (either 2 (ltZ x s && ltZ y s) (State 1) NoSector tt tt))
+
+corner-state : (a b : Bool) → T (isState 4 (12 + cond a 1 0 + 2 * cond b 1 0))
+unfolding isState states
+corner-state true true = tt
+corner-state true false = tt
+corner-state false true = tt
+corner-state false false = tt
+
+first-off : (m : ℕ) → T (isMode m) → (z : Point) → Off m (first m z)
+first-off =
+    mode-cases (λ m. (z : Point) → Off m (first m z)) (unfold first isState states in (λ z. tt)) (unfold first in sector-off)
+    (unfold first isState states in (λ z. tt)) (unfold first outer in (λ z. corner-state (leb 2048 (natAbs (z .re))) (leb 2048 (natAbs (z .im)))))
+
+turned-off : (m : ℕ) → T (isMode m) → (k : ℕ) (d : Decision) → Off m d → Off m (turnedAnswer m k d)
+unfolding turnedAnswer
+turned-off m hm k (State y) h = turns-state m hm (k * quarterSteps m) y h
+turned-off m hm k Origin h = h
+turned-off m hm k NoSector h = h
+
+pub decide-off : (m : ℕ) → T (isMode m) → (z : Point) → isOrigin z ≡ false → Off m (decide m z)
+unfolding decide
+decide-off m hm z o =
+    let k : ℕ = quarters m z in
+    let p : Point = turnedBy ((4 - k) % 4) z in
+    subst (λ (b : Bool). Off m (cond b Origin (turnedAnswer m k (first m p)))) (sym o) (turned-off m hm k (first m p) (first-off m hm p))
+
+at-origin : (m : ℕ) (z : Point) → isOrigin z ≡ true → decide m z ≡ Origin
+unfolding decide
+at-origin m z e = ap (λ (b : Bool). cond b Origin (decideBy m (quarters m z) z)) e
+
+-- a decided state is one of the mode
+pub decided-state : (m : ℕ) (z : Point) (s : ℕ) → T (isMode m) → decide m z ≡ State s → T (isState m s)
+decided-state m z s hm e = go (isOrigin z) refl
+  where
+    go : (b : Bool) → isOrigin z ≡ b → T (isState m s)
+    go true o = let p : Origin ≡ State s = sym (at-origin m z o) ∙ e in let w : _≡_ {A = ℕ} 0 1 = cc in absurd (omega arith)
+    go false o = subst (Off m) e (decide-off m hm z o)
+
+-- TURNS
+
+turns-add : (m i j s : ℕ) → turns m i (turns m j s) ≡ turns m (i + j) s
+turns-add m zero j s = ap (λ (n : ℕ). turns m n s) (let e : j ≡ 0 + j = omega arith in e)
+turns-add m (suc i) j s = ap (turn m) (turns-add m i j s) ∙ ap (λ (n : ℕ). turns m n s) (let e : suc (i + j) ≡ suc i + j = omega arith in e)
+
+answers-add : (m i j : ℕ) (d : Decision) → turnedAnswer m i (turnedAnswer m j d) ≡ turnedAnswer m (i + j) d
+unfolding turnedAnswer
+answers-add m i j (State s) =
+    ap State (turns-add m (i * quarterSteps m) (j * quarterSteps m) s ∙ ap (λ (n : ℕ). turns m n s) (let e : i * quarterSteps m + j * quarterSteps m ≡ (i + j) * quarterSteps m = omega arith in e))
+answers-add m i j Origin = refl
+answers-add m i j NoSector = refl
+
+four-quarters : (m : ℕ) → T (isMode m) → 4 * quarterSteps m ≡ wholeSteps m
+four-quarters = mode-cases (λ m. 4 * quarterSteps m ≡ wholeSteps m) (unfold step quarterSteps wholeSteps in refl) (unfold step quarterSteps wholeSteps in refl) (unfold step quarterSteps wholeSteps in refl) (unfold step quarterSteps wholeSteps in refl)
+
+answers-whole : (m : ℕ) (d : Decision) → T (isMode m) → Off m d → turnedAnswer m 4 d ≡ turnedAnswer m 0 d
+unfolding turnedAnswer
+answers-whole m (State s) hm v =
+    ap State (ap (λ (n : ℕ). turns m n s) (four-quarters m hm) ∙ of-state m s hm v .whole ∙ ap (λ (n : ℕ). turns m n s) (let e : 0 ≡ 0 * quarterSteps m = omega arith in e))
+answers-whole m Origin hm v = absurd v
+answers-whole m NoSector hm v = refl
+
+-- one more turn, after k of them
+next-answer : (m k : ℕ) (d : Decision) → T (isMode m) → Off m d → k < 4 → turnedAnswer m ((k + 1) % 4) d ≡ turnedAnswer m 1 (turnedAnswer m k d)
+next-answer m k d hm v h = go (decLe k 2)
+  where
+    go : Dec (k ≤ 2) → turnedAnswer m ((k + 1) % 4) d ≡ turnedAnswer m 1 (turnedAnswer m k d)
+    go (yes p) = ap (λ (n : ℕ). turnedAnswer m n d) (let e : (k + 1) % 4 ≡ 1 + k = omega arith in e) ∙ sym (answers-add m 1 k d)
+    go (no p) =
+        ap (λ (n : ℕ). turnedAnswer m n d) (let e : (k + 1) % 4 ≡ 0 = omega (arith, p) in e) ∙ sym (answers-whole m d hm v)
+        ∙ ap (λ (n : ℕ). turnedAnswer m n d) (let e : 4 ≡ 1 + k = omega (arith, p) in e) ∙ sym (answers-add m 1 k d)
+
+off-decides : (m : ℕ) (z : Point) → T (isMode m) → isOrigin z ≡ false → decide m (turned z) ≡ turnedAnswer m 1 (decide m z)
+off-decides m z hm o =
+    let i = in-one-region m z o in
+    let j : ℕ = i .by in
+    let h : j < 4 = i .small in
+    let k : (4 - before j) % 4 ≡ ((4 - j) % 4 + 1) % 4 = eqb→eq _ _ (below-at (λ n. eqb ((4 - before n) % 4) (((4 - n) % 4 + 1) % 4)) 4 tt j h) in
+    turn-decide m (turned z) (before j) (omega arith) (turn-before m z j h (i .turn)) (off-turned 1 z o)
+    ∙ ap₂ (λ (n : ℕ) (w : Point). turnedAnswer m n (first m w)) k (same-turn j h)
+    ∙ next-answer m ((4 - j) % 4) (first m (turnedBy j z)) hm (first-off m hm (turnedBy j z)) (omega arith)
+    ∙ ap (turnedAnswer m 1) (sym (turn-decide m z j h (i .turn) o))
+  where
+    same-turn : (j : ℕ) → j < 4 → turnedBy (before j) (turned z) ≡ turnedBy j z
+    same-turn zero h = turn-four z
+    same-turn (suc zero) h = refl
+    same-turn (suc (suc zero)) h = refl
+    same-turn (suc (suc (suc zero))) h = refl
+    same-turn (suc (suc (suc (suc j)))) h = absurd (omega arith)
+
+origin-decides : (m : ℕ) (z : Point) → isOrigin z ≡ true → decide m (turned z) ≡ turnedAnswer m 1 (decide m z)
+unfolding turnedAnswer
+origin-decides m z e = at-origin m (turned z) (origin-turned (z .re) (z .im) ∙ e) ∙ ap (turnedAnswer m 1) (sym (at-origin m z e))
+
+-- a point turned by 90° is decided as the answer turned by 90°
+pub turn-decides : (m : ℕ) (z : Point) → T (isMode m) → decide m (turned z) ≡ turnedAnswer m 1 (decide m z)
+turn-decides m z hm = go (isOrigin z) refl
+  where
+    go : (b : Bool) → isOrigin z ≡ b → decide m (turned z) ≡ turnedAnswer m 1 (decide m z)
+    go true e = origin-decides m z e
+    go false e = off-decides m z hm e

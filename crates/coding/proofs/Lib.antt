@@ -1,0 +1,4 @@
+pub mod CodeLaws
+pub mod ModeLaws
+pub mod DecideLaws
+pub mod Bench

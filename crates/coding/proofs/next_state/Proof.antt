@@ -1,0 +1,94 @@
+use Rattle.coding.proofs.CodeLaws.{coded-1, coded-2, coded-3, coded-4}
+use borrow.Author.Needs.{needs}
+use Rattle.coding.proofs.next_state.Statement.{statement}
+use Rattle.coding.proofs.next_state.Tie as tie
+use Rattle.coding.proofs.next_state.Reads as reads
+use Rattle.coding.proofs.next_state.Lts as lts
+use Rattle.coding.proofs.change16.Reads as change16-reads
+use Rattle.coding.proofs.change4.Reads as change4-reads
+use Rattle.coding.proofs.change8.Reads as change8-reads
+
+change4-requires : tie.Need-change4-requires
+change4-requires c κs = search needs
+
+mul-result : tie.Need-mul-result
+mul-result c = search needs
+
+add-result : tie.Need-add-result
+add-result c = search needs
+
+returns : tie.Need-returns
+returns c = search coded-1
+
+change8-requires : tie.Need-change8-requires
+change8-requires c κs = search needs
+
+add-result-2 : tie.Need-add-result-2
+add-result-2 c = search needs
+
+returns-2 : tie.Need-returns-2
+returns-2 c = search coded-2
+
+cast-y : tie.Need-cast-y
+cast-y c = search needs
+
+mul-change16 : tie.Need-mul-change16
+mul-change16 c = search needs
+
+add-change16 : tie.Need-add-change16
+add-change16 c = search needs
+
+change16-requires : tie.Need-change16-requires
+change16-requires c κs = search needs
+
+mul-result-2 : tie.Need-mul-result-2
+mul-result-2 c = search needs
+
+add-result-3 : tie.Need-add-result-3
+add-result-3 c = search needs
+
+returns-3 : tie.Need-returns-3
+returns-3 c = search coded-3
+
+mul-change16-2 : tie.Need-mul-change16-2
+mul-change16-2 c = search needs
+
+add-change16-2 : tie.Need-add-change16-2
+add-change16-2 c = search needs
+
+change16-requires-2 : tie.Need-change16-requires-2
+change16-requires-2 c κs = search needs
+
+mul-result-3 : tie.Need-mul-result-3
+mul-result-3 c = search needs
+
+add-result-4 : tie.Need-add-result-4
+add-result-4 c = search needs
+
+returns-4 : tie.Need-returns-4
+returns-4 c = search coded-4
+
+pub next-state-spec : {M : Type 1} → statement M
+next-state-spec =
+    tie.close
+    (tie.spec
+    change4-requires
+    mul-result
+    add-result
+    returns
+    change8-requires
+    add-result-2
+    returns-2
+    cast-y
+    mul-change16
+    add-change16
+    change16-requires
+    mul-result-2
+    add-result-3
+    returns-3
+    mul-change16-2
+    add-change16-2
+    change16-requires-2
+    mul-result-3
+    add-result-4
+    returns-4)

@@ -1,0 +1,62 @@
+-- Document 01, "Deciding a point", over whole numbers.
+use Prim.Native.Nat.{ℕ, zero, suc, _+_, _*_, _-_, _%_}
+use mathlib.Core.Bool.{Bool, true, false, _&&_, cond}
+use lib.Dec.{leb}
+use lib.IntN.{ℤ, pos, negℤ, natAbs, _+ℤ_, _-ℤ_, _*ℤ_}
+use lib.Signed.{ltZ, leZ}
+use Rattle.line.specs.declared.Point.{Point}
+use Rattle.deciding.specs.declared.Decision.{Decision}
+use Rattle.deciding.specs.declared.Decision.the-variants.{State, Origin, NoSector}
+use Rattle.line.specs.Mode.{byMode, turns, quarterSteps}
+use Rattle.line.specs.Point.{isOrigin, turnedBy}
+
+-- more than -45° and at most +45° from a direction: x along it, y across it
+abbrev pub within45 : ℤ → ℤ → Bool
+within45 x y = ltZ (negℤ x) y && leZ y x
+
+-- The region whose points are decided as they stand; "the others are its turns".
+-- Mode 1: about state 0. Mode 2: im ≥ 0 and re > 0. Mode 3: about C, with p = 3·re + im and q = 3·im - re. Mode 4: quadrant I.
+unfoldable pub inFirst : ℕ → Point → Bool
+inFirst m z =
+    let p : ℤ = pos 3 *ℤ z .re +ℤ z .im in
+    let q : ℤ = pos 3 *ℤ z .im -ℤ z .re in
+    byMode m (within45 (z .re) (z .im)) (leZ (pos 0) (z .im) && ltZ (pos 0) (z .re)) (within45 p q)
+    (leZ (pos 0) (z .re) && ltZ (pos 0) (z .im))
+
+abbrev pub square : ℤ → ℤ
+square x = x *ℤ x
+
+-- Mode 2, im ≥ 0 and re > 0: nearer 0° than 45°, nearer 90° than 45°, nearer 45° than both, or on an edge
+unfoldable pub sector : Point → Decision
+sector z =
+    let s : ℤ = square (z .re +ℤ z .im) in
+    let x : ℤ = pos 2 *ℤ square (z .re) in
+    let y : ℤ = pos 2 *ℤ square (z .im) in
+    cond (ltZ s x) (State 0) (cond (ltZ s y) (State 2) (cond (ltZ x s && ltZ y s) (State 1) NoSector))
+
+-- Mode 4: a coordinate of size 2048 or more is level 3, below it level 1. In quadrant I the states are
+-- 1100 at (1, 1), 1101 at (3, 1), 1110 at (1, 3), 1111 at (3, 3).
+unfoldable pub outer : ℤ → ℕ
+outer x = cond (leb 2048 (natAbs x)) 1 0
+
+-- the answer for a point of the first region
+unfoldable pub first : ℕ → Point → Decision
+first m z = byMode m (State 0) (sector z) (State 13) (State (12 + outer (z .re) + 2 * outer (z .im)))
+
+-- an answer turned by k turns of 90°
+unfoldable pub turnedAnswer : ℕ → ℕ → Decision → Decision
+turnedAnswer m k (State s) = State (turns m (k * quarterSteps m) s)
+turnedAnswer m k Origin = Origin
+turnedAnswer m k NoSector = NoSector
+
+-- how many turns of 90° lead from the first region to the point
+unfoldable pub quarters : ℕ → Point → ℕ
+quarters m z = cond (inFirst m z) 0 (cond (inFirst m (turnedBy 3 z)) 1 (cond (inFirst m (turnedBy 2 z)) 2 3))
+
+-- the point is turned back into the first region, and its answer turned forth
+abbrev pub decideBy : ℕ → ℕ → Point → Decision
+decideBy m k z = turnedAnswer m k (first m (turnedBy ((4 - k) % 4) z))
+
+-- the origin is no state
+unfoldable pub decide : ℕ → Point → Decision
+decide m z = cond (isOrigin z) Origin (decideBy m (quarters m z) z)
