@@ -4,7 +4,7 @@ ghost use mathlib.Core.List.{[], _∷_};
 ghost use Prim.Native.Nat.{_<_, min};
 ghost use lib.ListN.{length, drop, getD, replicate};
 ghost use lib.Seq.{sets};
-ghost use Rattle.octets.specs.Number.{u16, u32, le16, le32, pattern, signed, i16, leI16, zeros};
+ghost use Rattle.octets.specs.Number.{u16, u32, le16, le32, pattern, signed, i16, zeros};
 
 fn wide(x: u8) -> usize
     ensures { λ r. ⌜ (r ≡ x) × (r < 256) ⌝ }
@@ -90,12 +90,6 @@ pub fn get_i16(s: &[u8], at: usize) -> i16
     ensures { λ r. ⌜ r ≡ i16 (now (s .entry)) at ⌝ }
 {
     signed_of(get16(s, at) as u16)
-}
-
-pub fn put_i16(s: &mut [u8], at: usize, x: i16)
-    ensures { λ _. ⌜ now (s .exit) ≡ sets (now (s .entry)) at (leI16 x) ⌝ }
-{
-    put16(s, at, pattern_of(x));
 }
 
 // Whether the bytes of `s` from `at` on are zero. Every byte is looked at, so that many are compared at once.

@@ -12,7 +12,8 @@ use lib.IntN.{ℤ, pos, natAbs}
 use lib.ListN.{length, getD, take, drop, length-drop}
 use lib.Seq.{sets, length-sets, drop-cons, take-all}
 use Rattle.line.specs.declared.Point.{Point}
-use Rattle.line.specs.Point.{at, inRange}
+use Rattle.line.specs.Point.{at, pairs, inRange}
+use Rattle.line.proofs.PointLaws.{pairs-step, pairs-end, pairs-length}
 use Rattle.octets.proofs.Tests.{by-test}
 use Rattle.octets.specs.Number.{le32}
 use Rattle.store.specs.declared.View.{View}
@@ -21,26 +22,12 @@ use Rattle.store.specs.Store.{need, orElse, total, refusal}
 use Rattle.store.specs.Walk.{Viewed}
 use Rattle.store.proofs.Sounds.{need-zero, or-some, or-zero, or-same, accepted-sound, sound-last}
 use Rattle.track.specs.Append.{mostIntervals, pointAppended, pointNumber, pointResult}
-use Rattle.track.specs.Points.{pairs, eachNumber, eachResult, pointsNumber, pointsResult}
+use Rattle.track.specs.Points.{eachNumber, eachResult, pointsNumber, pointsResult}
 use Rattle.track.specs.Seen.{spaces, pointSeen, seenNumber, fit, firstIn, Ends, Reach, placed, nextEnd}
 use Rattle.track.proofs.Answers.{point-seen, point-free, point-done}
 use Rattle.track.proofs.Places.{point-appended, spaces-less, Apart, apart-placed, total-over, placed-total, ends-next, last-positive, new-room}
 
 -- ---- the points of a list of numbers
-pub pairs-step : (zs : List ℤ) (k : ℕ) → k + 1 < length zs
-    → pairs (drop k zs) ≡ at (getD zs k (pos 0)) (getD zs (k + 1) (pos 0)) ∷ pairs (drop (k + 2) zs)
-pairs-step zs k h =
-    ap pairs (drop-cons zs k (pos 0) (omega arith) ∙ ap (λ (l : List ℤ). getD zs k (pos 0) ∷ l) (drop-cons zs (suc k) (pos 0) (omega arith)))
-    ∙ ap₂ (λ (m n : ℕ). at (getD zs k (pos 0)) (getD zs m (pos 0)) ∷ pairs (drop n zs)) (let e : suc k ≡ k + 1 = omega arith in e) (let e : suc (suc k) ≡ k + 2 = omega arith in e)
-
-short : (zs : List ℤ) → length zs ≤ 1 → pairs zs ≡ []
-short [] h = refl
-short (z ∷ []) h = refl
-short (z ∷ y ∷ zs) h = absurd (omega arith)
-
-pub pairs-end : (zs : List ℤ) (k : ℕ) → length zs ≤ k + 1 → pairs (drop k zs) ≡ []
-pairs-end zs k h = short (drop k zs) (simp length-drop (omega arith))
-
 two-more : (n : ℕ) → 2 * suc n ≡ suc (suc (2 * n))
 two-more n = omega arith
 
@@ -49,11 +36,6 @@ pairs-drop zero zs = refl
 pairs-drop (suc n) [] = ap (λ (m : ℕ). pairs (drop m [])) (two-more n)
 pairs-drop (suc n) (z ∷ []) = ap (λ (m : ℕ). pairs (drop m (z ∷ []))) (two-more n)
 pairs-drop (suc n) (z ∷ y ∷ zs) = ap (λ (m : ℕ). pairs (drop m (z ∷ y ∷ zs))) (two-more n) ∙ pairs-drop n zs
-
-pairs-long : (zs : List ℤ) → length zs / 2 ≤ length (pairs zs)
-pairs-long [] = omega arith
-pairs-long (z ∷ []) = omega arith
-pairs-long (z ∷ y ∷ zs) = omega (arith, pairs-long zs)
 
 -- ---- the first number, without writing
 pub seen-stop : (number t room n : ℕ) (p : Point) (ps : List Point) → n ≡ pointSeen number t room p → (n ≡ 0 → ⊥) → n ≡ seenNumber number t room (p ∷ ps)
@@ -144,7 +126,7 @@ seen-fit (suc number) t room n ps h l = unfold fit in (rw (add-zero t, sub-zero 
 seen-numbers : (number t room n : ℕ) (zs : List ℤ) → t ≤ 4294967295 → n ≡ fit number t room (length zs / 2)
     → seenNumber number t room (pairs zs) ≡ need (firstIn n (pairs zs)) 8 (seenNumber number (t + n) (room - n) (pairs (drop (2 * n) zs)))
 seen-numbers number t room n zs h e =
-    rw (e, pairs-drop) (seen-fit number t room (length zs / 2) (pairs zs) h (pairs-long zs))
+    rw (e, pairs-drop) (seen-fit number t room (length zs / 2) (pairs zs) h (let e : length zs / 2 ≤ length (pairs zs) = omega (arith, pairs-length zs) in e))
 
 pub seen-fitted : (number t room n x : ℕ) (zs : List ℤ) → t ≤ 4294967295 → n ≡ fit number t room (length zs / 2) → firstIn n (pairs zs) ≡ true
     → x ≡ seenNumber number (t + n) (room - n) (pairs (take (length zs - 2 * n) (drop (2 * n) zs))) → x ≡ seenNumber number t room (pairs zs)

@@ -6,15 +6,9 @@ use lib.Dec.{eqb}
 use lib.IntN.{ℤ}
 use lib.ListN.{length}
 use Rattle.line.specs.declared.Point.{Point}
-use Rattle.line.specs.Point.{at}
+use Rattle.line.specs.Point.{pairs}
 use Rattle.store.specs.Store.{need, orElse}
 use Rattle.track.specs.Append.{pointNumber, pointResult}
-
--- a point is re, then im; a last number without its partner is no point
-abbrev pub pairs : List ℤ → List Point
-pairs [] = []
-pairs (x ∷ []) = []
-pairs (x ∷ y ∷ zs) = at x y ∷ pairs zs
 
 -- the number of the first append that is refused, each to the store that the one before left
 abbrev pub eachNumber : List ℕ → List Point → ℕ

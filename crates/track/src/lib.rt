@@ -25,12 +25,12 @@ ghost use mathlib.Core.Bool.{true, false};
 ghost use mathlib.Core.List.{[], _∷_};
 ghost use Prim.Native.Nat.{_+_, _*_, _≤_, _<_};
 ghost use lib.ListN.{length};
-ghost use Rattle.line.specs.Point.{at};
+ghost use Rattle.line.specs.Point.{at, pairs};
 ghost use Rattle.octets.specs.Number.{le16, le32};
 ghost use Rattle.store.specs.Layout.{rec, write, linkIn, totalAt, held, lostRecord, pointBytes, pointRecord};
 ghost use Rattle.store.specs.Walk.{Viewed};
 ghost use Rattle.track.specs.Append.{made, makeNumber, makeResult, lostNumber, lostResult, hasRoom, pointNumber, pointResult};
-ghost use Rattle.track.specs.Points.{pairs, eachNumber, eachResult, pointsNumber, pointsResult};
+ghost use Rattle.track.specs.Points.{eachNumber, eachResult, pointsNumber, pointsResult};
 ghost use Rattle.track.specs.Seen.{spaces, pointSeen, lostSeen, seenNumber, firstIn, fit, Ends, Reach, placed, nextEnd};
 
 const MOST_INTERVALS: usize = 4294967295;
