@@ -60,3 +60,9 @@ decideBy m k z = turnedAnswer m k (first m (turnedBy ((4 - k) % 4) z))
 -- the origin is no state
 unfoldable pub decide : ℕ → Point → Decision
 decide m z = cond (isOrigin z) Origin (decideBy m (quarters m z) z)
+
+-- the state that a point is decided as; of another answer 0, which is not asked for
+abbrev pub stateIn : Decision → ℕ
+stateIn (State y) = y
+stateIn Origin = 0
+stateIn NoSector = 0

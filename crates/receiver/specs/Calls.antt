@@ -4,10 +4,8 @@ use mathlib.Core.Bool.{Bool, false, not}
 use mathlib.Core.List.{List, [], _∷_, _++_, map}
 use lib.Dec.{T}
 use lib.ListN.{drop}
-use Rattle.deciding.specs.declared.Decision.{Decision}
-use Rattle.deciding.specs.declared.Decision.the-variants.{State, Origin, NoSector}
 use Rattle.line.specs.Point.{isOrigin}
-use Rattle.deciding.specs.Decide.{decide}
+use Rattle.deciding.specs.Decide.{decide, stateIn}
 use Rattle.line.specs.Refusal.{accepted}
 use Rattle.scrambler.specs.Scramble.{Datum}
 use Rattle.receiver.specs.declared.Receiver.{Receiver}
@@ -45,12 +43,7 @@ isPoint (gap n) = false
 abbrev pub IsPoint : Heard → Type 0
 IsPoint x = T (isPoint (x .event))
 
--- the state that an event's point is decided as; of another event 0, which is not asked for
-abbrev pub stateIn : Decision → ℕ
-stateIn (State y) = y
-stateIn Origin = 0
-stateIn NoSector = 0
-
+-- the state that an event's point is decided as; of a gap 0, which is not asked for
 abbrev pub decidedAs : ℕ → Event → ℕ
 decidedAs m (point p) = stateIn (decide m p)
 decidedAs m (gap n) = 0

@@ -16,19 +16,19 @@ use Rattle.deciding.specs.declared.Decision.the-variants.{State, Origin, NoSect
 use Rattle.line.specs.declared.Point.{Point}
 use Rattle.line.specs.Mode.{width, regLen, face}
 use Rattle.line.specs.Point.{at}
-use Rattle.deciding.specs.Decide.{decide}
+use Rattle.deciding.specs.Decide.{decide, stateIn}
 use Rattle.coding.specs.Code.{group}
 use Rattle.scrambler.specs.declared.Register.{Register}
 use Rattle.scrambler.specs.Bits.{bits}
 use Rattle.scrambler.specs.Scramble.{Datum, settled, descramble}
 use Rattle.receiver.specs.Receiver.{Event, point, gap}
-use Rattle.receiver.specs.Calls.{Heard, All, decidedAs, stateIn, decidedStates, row}
+use Rattle.receiver.specs.Calls.{Heard, All, decidedAs, decidedStates, row}
 use Rattle.receiver.specs.Turn.{lines}
 use Rattle.sender.specs.declared.Sender.{Sender}
 use Rattle.sender.specs.Calls.{DataPoint}
 use Rattle.sender.specs.Sender.{afterGroup}
 use Rattle.sender.proofs.SendLaws.{group-mode}
-use Rattle.sender.proofs.DataLaws.{Made, From, consecutive, stateOf, statesOf, lineBits, given, Reads, from-reads}
+use Rattle.sender.proofs.DataLaws.{Made, From, consecutive, statesOf, lineBits, given, Reads, from-reads}
 use Rattle.store.specs.Layout as Stored
 use Rattle.octets.proofs.Sets.{getD-sets-in}
 use Rattle.store.specs.Store.{orElse, events, refusal}
@@ -143,11 +143,6 @@ drop-map : {A B : Type 0} (f : A → B) (n : ℕ) (xs : List A) → drop n (map 
 drop-map f n xs = sym (map-drop f n xs)
 
 -- the decided states of the points that were handed on
-state-same : (d : Decision) → stateIn d ≡ stateOf d
-state-same (State s) = refl
-state-same Origin = refl
-state-same NoSector = refl
-
 states-same : (m : ℕ) (xs : List Heard) (ds : List DataPoint) → Demand.events xs ≡ received ds → decidedStates m xs ≡ statesOf m ds
 states-same m [] [] e = refl
 states-same m [] (d ∷ ds) e = absurd (omega (arith, ap length e))
@@ -155,7 +150,7 @@ states-same m (x ∷ xs) [] e = absurd (omega (arith, ap length e))
 states-same m (x ∷ xs) (d ∷ ds) e =
     let e0 : x .event ≡ point (d .point) = cc in
     let e1 : Demand.events xs ≡ received ds = cc in
-    ap₂ _∷_ (ap (decidedAs m) e0 ∙ state-same (decide m (d .point))) (states-same m xs ds e1)
+    ap₂ _∷_ (ap (decidedAs m) e0) (states-same m xs ds e1)
 
 row-lines : (m x : ℕ) (ys : List ℕ) → row (lines m x ys) ≡ lineBits m x ys
 row-lines m x [] = refl
@@ -173,8 +168,8 @@ sender-data m role (x ∷ xs) (d ∷ ds) k c e =
     let q = enough m (k .shape .0) in
     let e0 : x .event ≡ point (d .point) = cc in
     let e1 : Demand.events xs ≡ received ds = cc in
-    let g : row (lines m (decidedAs m (x .event)) (decidedStates m xs)) ≡ lineBits m (stateOf (decide m (d .point))) (statesOf m ds) =
-    row-lines m (decidedAs m (x .event)) (decidedStates m xs) ∙ ap₂ (lineBits m) (ap (decidedAs m) e0 ∙ state-same (decide m (d .point))) (states-same m xs ds e1) in
+    let g : row (lines m (decidedAs m (x .event)) (decidedStates m xs)) ≡ lineBits m (stateIn (decide m (d .point))) (statesOf m ds) =
+    row-lines m (decidedAs m (x .event)) (decidedStates m xs) ∙ ap₂ (lineBits m) (ap (decidedAs m) e0) (states-same m xs ds e1) in
     let z : All (λ (h : List ℕ). length h ≡ width m) (map (λ (t : DataPoint). t .bits) ds) = made-sized m (f .sender) (d ∷ ds) (f .mode) (f .made-by) .1 in
     data-any m role x xs k (r .line)
     ∙ ap (λ (l : List ℕ). drop ((p - 2) * width m) (descramble m role (r .line) l)) g

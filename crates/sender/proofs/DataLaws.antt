@@ -16,7 +16,7 @@ use Rattle.deciding.specs.declared.Decision.the-variants.{State, Origin, NoSect
 use Rattle.line.specs.Table.{every}
 use Rattle.line.specs.Mode.{isMode, width, regLen, face}
 use Rattle.line.specs.Point.{at, sentPoint}
-use Rattle.deciding.specs.Decide.{decide}
+use Rattle.deciding.specs.Decide.{decide, stateIn}
 use Rattle.coding.specs.Code.{coded, group}
 use Rattle.coding.proofs.ModeLaws.{OfGroup, OfState, of-state}
 use Rattle.scrambler.specs.declared.Register.{Register}
@@ -140,14 +140,9 @@ consecutive s cs pre ds post e =
 
 -- THEY ARE READ BACK
 
--- the state that a point is decided as; a point that is decided as none gives 0
-abbrev pub stateOf : Decision → ℕ
-stateOf (State s) = s
-stateOf Origin = 0
-stateOf NoSector = 0
-
+-- the states that data points are decided as
 abbrev pub statesOf : ℕ → List DataPoint → List ℕ
-statesOf m ds = map (λ (d : DataPoint). stateOf (decide m (d .point))) ds
+statesOf m ds = map (λ (d : DataPoint). stateIn (decide m (d .point))) ds
 
 -- the line bits of states after a reference, in one row
 abbrev pub lineBits : ℕ → ℕ → List ℕ → List ℕ
@@ -190,8 +185,8 @@ made-data m role s (d ∷ ds) em er k =
     let t : Sender = afterGroup s g in
     let b : List ℕ = scramble m role (s .line) g in
     let l : length g ≡ width (s .mode) = k .1 in
-    let x : stateOf (decide m (d .point)) ≡ t .reference =
-    ap (λ (n : ℕ). stateOf (decide n (d .point))) (sym em) ∙ ap stateOf (decided-made s d ds k) in
+    let x : stateIn (decide m (d .point)) ≡ t .reference =
+    ap (λ (n : ℕ). stateIn (decide n (d .point))) (sym em) ∙ ap stateIn (decided-made s d ds k) in
     let y : bits (width m) (group m (face m (s .reference)) (t .reference)) ≡ b =
     subst₂ (λ (n r : ℕ). bits (width n) (group n (face n (s .reference)) (t .reference)) ≡ scramble n r (s .line) g) em er (group-read s g (k .0) l) in
     let z : pushes m (s .line) b ≡ t .line =
@@ -210,7 +205,7 @@ made-data m role s (d ∷ ds) em er k =
 pub record Reads (m role : ℕ) (d : DataPoint) (ds : List DataPoint) : Type 0 where
   pub line : Register
   pub fit : Ok m line
-  pub reads : descramble m role line (lineBits m (stateOf (decide m (d .point))) (statesOf m ds)) ≡ map settled (given ds)
+  pub reads : descramble m role line (lineBits m (stateIn (decide m (d .point))) (statesOf m ds)) ≡ map settled (given ds)
 
 pub from-reads : (m role : ℕ) (d : DataPoint) (ds : List DataPoint) → From m role (d ∷ ds) → Reads m role d ds
 from-reads m role d ds f =
@@ -220,8 +215,8 @@ from-reads m role d ds f =
     let em : t .mode ≡ m = group-mode s (d .bits) ∙ f .mode in
     let er : t .role ≡ role = group-role s (d .bits) ∙ f .role-is in
     let ready = can-send t (state-ok t (state-after s (d .bits) (k .0) (k .1)) .fields) in
-    let x : stateOf (decide m (d .point)) ≡ t .reference =
-    ap (λ (n : ℕ). stateOf (decide n (d .point))) (sym (f .mode)) ∙ ap stateOf (decided-made s d ds k) in
+    let x : stateIn (decide m (d .point)) ≡ t .reference =
+    ap (λ (n : ℕ). stateIn (decide n (d .point))) (sym (f .mode)) ∙ ap stateIn (decided-made s d ds k) in
     record {
       line = t .line;
       fit = subst (λ (n : ℕ). Ok n (t .line)) em (ready .fit);
