@@ -1,11 +1,11 @@
 -- A block is the single calls one after the other, and the ways of its code lead to that. Assumes nothing.
 use Prim.Native.Nat.{ℕ, zero, suc, _+_, _*_, _-_, _/_, _%_, _<_, _≤_}
 use mathlib.Core.Path.{_≡_, refl, sym, ap, ap₂, _∙_, subst}
-use mathlib.Core.Bool.{Bool, true, false, _&&_}
+use mathlib.Core.Bool.{Bool, true, false, _&&_, and-assoc}
 use mathlib.Core.List.{List, [], _∷_, map}
 use native.Mathlib.Omega.{arith}
 use borrow.Author.Tests.{le-leb, lt-leb, leb-true}
-use lib.Dec.{T, eqb, leb}
+use lib.Dec.{T, eqb, leb, eqb→eq}
 use lib.IntN.{ℤ, pos}
 use lib.ListN.{length, getD, set, drop}
 use lib.Seq.{sets}
@@ -13,14 +13,18 @@ use Rattle.line.specs.declared.Point.{Point}
 use Rattle.deciding.specs.declared.Decision.{Decision}
 use Rattle.deciding.specs.declared.Decision.the-variants.{State, Origin, NoSector}
 use Rattle.line.specs.Mode.{face}
-use Rattle.line.specs.Point.{at, pairs, inRange}
+use Rattle.line.specs.Point.{at, pairs, coordinateIn, inRange, coordinatesIn, isOrigin}
 use Rattle.deciding.specs.Decide.{decide}
+use Rattle.deciding.specs.Sizes.{ringOf, ringIndex}
 use Rattle.coding.specs.Code.{group}
+use Rattle.coding.specs.Rows.{rowIndex, withRow, Rows}
+use Rattle.coding.proofs.RowLaws.{looked-up as row-looked-up}
 use Rattle.line.specs.Refusal.{need, accepted}
 use Rattle.line.proofs.RefusalLaws.{need-met, need-rest, need-intro, next-first, next-rest}
 use Rattle.line.proofs.TableLaws.{and-left, and-right, and-intro, is-true}
 use Rattle.line.proofs.PointLaws.{pairs-step, pairs-end, pairs-length}
 use Rattle.deciding.proofs.SectorLaws.{never-no-sector}
+use Rattle.deciding.proofs.RingLaws.{looked-up, origin-none}
 use Rattle.scrambler.specs.declared.Register.{Register}
 use Rattle.scrambler.specs.declared.Descrambled.{Descrambled}
 use Rattle.scrambler.specs.Register.{fresh}
@@ -34,7 +38,7 @@ use Rattle.receiver.specs.Receiver.{receiver, Event, point, stateRefusal, inSec
 use Rattle.receiver.specs.Outcome.{groupOf, stateOutcome, gapOutcome, pointOutcome, eventOutcome, outcome}
 use Rattle.receiver.specs.Calls.{after, Heard, heard}
 use Rattle.receiver.proofs.OutcomeLaws.{next-placed, or-some}
-use Rattle.receiver.proofs.CallLaws.{handed-back-passes}
+use Rattle.receiver.proofs.CallLaws.{handed-back-passes, same-next}
 use Rattle.blocks.specs.declared.Block.{Block}
 use Rattle.blocks.specs.declared.Block.the-variants.{Refused as NotTaken, Taken}
 use Rattle.blocks.specs.declared.Step.{Step}
@@ -63,27 +67,21 @@ module _ (s : Receiver) (p : Point) (z : refusal s (point p) ≡ 0) where
   unfolding outcome eventOutcome next eventNext
   step-is = ap (λ (n : ℕ). step (accepted n (pointOutcome s (decide (s .mode) p)) (Refused n)) (accepted n (pointNext s (decide (s .mode) p)) s)) (sym z)
 
--- its step, by what it is decided as; the coordinates as they were passed on
-module _ (s : Receiver) (re im : ℤ) (z : refusal s (point (at re im)) ≡ 0) (d : Decision) (re′ im′ : ℤ) (q : d ≡ decide (s .mode) (at re′ im′)) (x : re′ ≡ re) (y : im′ ≡ im) where
+-- its step, by what it is decided as
+module _ (s : Receiver) (re im : ℤ) (z : refusal s (point (at re im)) ≡ 0) (origin : Bool) (e : origin ≡ isOrigin (at re im)) where
   abbrev taken : Step
   taken = step (outcome s (point (at re im))) (next s (point (at re im)))
 
-  decided : d ≡ decide (s .mode) (at re im)
-  decided = q ∙ ap₂ (λ (a b : ℤ). decide (s .mode) (at a b)) x y
+  step-as : (c : Decision) (r : Step) → c ≡ decide (s .mode) (at re im) → r ≡ step (pointOutcome s c) (pointNext s c) → r ≡ taken
+  step-as c r q t = t ∙ ap (λ (u : Decision). step (pointOutcome s u) (pointNext s u)) q ∙ step-is s (at re im) z
 
-  step-as : (c : Decision) (r : Step) → d ≡ c → r ≡ step (pointOutcome s c) (pointNext s c) → r ≡ taken
-  step-as c r e t = t ∙ ap (λ (u : Decision). step (pointOutcome s u) (pointNext s u)) (sym e ∙ decided) ∙ step-is s (at re im) z
-
-  pub hear-state : (n : ℕ) (r : Step) → d ≡ State n → r ≡ step (stateOutcome s (s .reference) n) (stateNext s (s .reference) n) → r ≡ taken
+  pub hear-state : (ring : List ℕ) (n : ℕ) (r : Step) → origin ≡ false → ring ≡ ringOf (s .mode) → n ≡ getD ring (ringIndex (s .mode) re im) 0 → r ≡ step (stateOutcome s (s .reference) n) (stateNext s (s .reference) n) → r ≡ taken
   unfolding pointOutcome pointNext
-  hear-state n r e t = step-as (State n) r e t
+  hear-state ring n r h i q t = step-as (State n) r (looked-up (s .mode) re im ring n i q (sym e ∙ h)) t
 
-  pub hear-origin : (r : Step) → d ≡ Origin → r ≡ step (gapOutcome s 1) (forgotten s 1) → r ≡ taken
+  pub hear-origin : (r : Step) → origin ≡ true → r ≡ step (gapOutcome s 1) (forgotten s 1) → r ≡ taken
   unfolding pointOutcome pointNext
-  hear-origin r e t = step-as Origin r e t
-
-  pub hear-nowhere : (r : Step) → d ≡ NoSector → r ≡ taken
-  hear-nowhere r e = absurd (never-no-sector (s .mode) (at re im) (sym decided ∙ e))
+  hear-origin r h t = step-as Origin r (origin-none (s .mode) re im (sym e ∙ h)) t
 
 -- a decided point and the origin from their parts
 module _ (s t : Receiver) (y : ℕ) (o : Reference) where
@@ -92,11 +90,13 @@ module _ (s t : Receiver) (y : ℕ) (o : Reference) where
   unfolding stateOutcome stateNext stateLine
   take-reference is q = rw (q, is)
 
-  pub take-bits : (x g : ℕ) (d : Descrambled) → o ≡ some x → g ≡ group (s .mode) (face (s .mode) x) y → d ≡ descrambled (s .mode) (s .role) (s .line) g
+  pub take-bits : (x g : ℕ) (d : Descrambled) (rows : List ℕ) → o ≡ some x → Rows (s .mode) rows → g ≡ withRow (s .mode) (getD rows (rowIndex (s .mode) x y) 0) y → d ≡ descrambled (s .mode) (s .role) (s .line) g
       → t ≡ receiver (s .mode) (s .role) (some y) (d .next) (s .place .0 + 1)
       → _≡_ {A = Step} (record { line = g; plain = 16 * d .unsettled .0 + d .plain; next = t }) (step (stateOutcome s o y) (stateNext s o y))
   unfolding stateOutcome stateNext stateLine groupOf descrambled
-  take-bits x g d is e q r = rw (r, q, e, is)
+  take-bits x g d rows is t e q r =
+      let f : g ≡ group (s .mode) (face (s .mode) x) y = e ∙ row-looked-up (s .mode) x y rows t in
+      rw (r, q, f, is)
 
 pub lose-law : (s t : Receiver) (h : Register) → h ≡ fresh → t ≡ receiver (s .mode) (s .role) none h (s .place .0 + 1)
     → _≡_ {A = Step} (record { line = 17; plain = 0; next = t }) (step (gapOutcome s 1) (forgotten s 1))
@@ -209,6 +209,14 @@ heard-all s (p ∷ ps) f =
 
 -- THE WAYS OF THE CODE
 
+-- the points of an even count of numbers are in range when each number is
+each-of : (zs : List ℤ) → length zs % 2 ≡ 0 → coordinatesIn zs ≡ each inRange (pairs zs)
+unfolding inRange
+each-of [] h = refl
+each-of (x ∷ []) h = absurd (omega arith)
+each-of (x ∷ y ∷ zs) h =
+    sym (and-assoc (coordinateIn x) (coordinateIn y) (coordinatesIn zs)) ∙ ap (λ (t : Bool). (coordinateIn x && coordinateIn y) && t) (each-of zs (omega arith))
+
 module _ (s : Receiver) (zs : List ℤ) (a b f : ℕ) (e : f ≡ stateRefusal s) where
   pub fault-state : (f ≡ 0 → ⊥) → f ≡ blockRefusal s zs a b
   unfolding blockRefusal
@@ -219,7 +227,14 @@ module _ (s : Receiver) (zs : List ℤ) (a b f : ℕ) (e : f ≡ stateRefusal s)
     unfolding blockRefusal
     fault-lent h = rw (← e, z, ← lent-is s zs a b, ← q, h)
 
-    module _ (h : lent ≡ true) (r : Bool) (i : r ≡ each inRange (pairs zs)) where
+    module _ (h : lent ≡ true) (r : Bool) (c : r ≡ coordinatesIn zs) where
+      i : r ≡ each inRange (pairs zs)
+      i =
+          let even : Bool = eqb (length zs % 2) 0 in
+          let first : Bool = leb (length zs / 2) a in
+          let lent-so : T ((even && first) && leb (length zs / 2) b) = subst T (sym (sym q ∙ h)) tt in
+          c ∙ each-of zs (eqb→eq (length zs % 2) 0 (and-left even first (and-left (even && first) (leb (length zs / 2) b) lent-so)))
+
       pub fault-range : r ≡ false → 8 ≡ blockRefusal s zs a b
       unfolding blockRefusal
       fault-range k = rw (← e, z, ← lent-is s zs a b, ← q, h, ← i, k)
@@ -284,31 +299,12 @@ module _ (s : Receiver) (zs : List ℤ) (l p : List ℕ) where
         ep ∙ ap (λ (k : ℕ). accepted k (sets p 0 (map plainByte (outcomes s (pairs zs)))) p) q,
       )
 
--- THE PASS OVER THE COORDINATES
-
-and-assoc : (a b c : Bool) → a && (b && c) ≡ (a && b) && c
-and-assoc true b c = refl
-and-assoc false b c = refl
-
-and-last : (a : Bool) → a && true ≡ a
-and-last true = refl
-and-last false = refl
-
-module _ (zs : List ℤ) (k : ℕ) (all : Bool) where
-  pub range-step : (r : Bool) → each inRange (pairs zs) ≡ all && each inRange (pairs (drop k zs)) → k + 1 < length zs
-      → r ≡ inRange (at (getD zs k (pos 0)) (getD zs (k + 1) (pos 0))) → each inRange (pairs zs) ≡ (all && r) && each inRange (pairs (drop (k + 2) zs))
-  range-step r e h q =
-      e ∙ ap (λ (ps : List Point). all && each inRange ps) (pairs-step zs k h)
-      ∙ and-assoc all (inRange (at (getD zs k (pos 0)) (getD zs (k + 1) (pos 0)))) _ ∙ ap (λ (b : Bool). (all && b) && each inRange (pairs (drop (k + 2) zs))) (sym q)
-
-  pub range-end : each inRange (pairs zs) ≡ all && each inRange (pairs (drop k zs)) → length zs ≤ k + 1 → all ≡ each inRange (pairs zs)
-  range-end e h = sym (e ∙ ap (λ (ps : List Point). all && each inRange ps) (pairs-end zs k h) ∙ and-last all)
-
 -- THE PASS THAT READS
 
 -- after the points before number k: what is left to take is all that is left to do
 pub record Hearing (s : Receiver) (line plain : List ℕ) (zs : List ℤ) (t : Receiver) (l p : List ℕ) (k : ℕ) : Type 0 where
   pub place : k ≤ length zs / 2
+  pub mode-stays : t .mode ≡ s .mode
   pub line-long : length l ≡ length line
   pub plain-long : length p ≡ length plain
   pub free : EachAccepted t (pairs (drop (2 * k) zs))
@@ -318,7 +314,7 @@ pub record Hearing (s : Receiver) (line plain : List ℕ) (zs : List ℤ) (t : R
 
 pub hearing-start : (s : Receiver) (line plain : List ℕ) (zs : List ℤ) → EachAccepted s (pairs zs) → Hearing s line plain zs s line plain 0
 hearing-start s line plain zs f =
-    record { place = omega arith; line-long = refl; plain-long = refl; free = f; state-left = refl; line-left = refl; plain-left = refl }
+    record { place = omega arith; mode-stays = refl; line-long = refl; plain-long = refl; free = f; state-left = refl; line-left = refl; plain-left = refl }
 
 module _ (s : Receiver) (line plain : List ℕ) (zs : List ℤ) (t : Receiver) (l p : List ℕ) (k : ℕ) (h : Hearing s line plain zs t l p k) where
   abbrev here : Point
@@ -326,6 +322,10 @@ module _ (s : Receiver) (line plain : List ℕ) (zs : List ℤ) (t : Receiver) (
 
   abbrev rest : List Point
   rest = pairs (drop (2 * (k + 1)) zs)
+
+  -- the ring and the rows of the first state serve
+  pub hearing-tables : (ring rows : List ℕ) → ring ≡ ringOf (s .mode) → Rows (s .mode) rows → (ring ≡ ringOf (t .mode)) × Rows (t .mode) rows
+  hearing-tables ring rows e r = (e ∙ ap ringOf (sym (h .mode-stays)), subst (λ (m : ℕ). Rows m rows) (sym (h .mode-stays)) r)
 
   module _ (i : k < length zs / 2) where
     now-here : pairs (drop (2 * k) zs) ≡ here ∷ rest
@@ -342,6 +342,7 @@ module _ (s : Receiver) (line plain : List ℕ) (zs : List ℤ) (t : Receiver) (
         let u : r .next ≡ next t (point here) = ap (λ (x : Step). x .next) e in
         record {
           place = omega arith;
+          mode-stays = ap (λ (v : Receiver). v .mode) u ∙ same-next t (point here) .0 ∙ h .mode-stays;
           line-long = nl;
           plain-long = np;
           free = subst (λ (v : Receiver). EachAccepted v rest) (sym u) (f .1);

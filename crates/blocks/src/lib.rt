@@ -1,15 +1,16 @@
 // Many points by one call: the state is looked at once, then the coordinates, then each point is read.
 ghost use mathlib.Core.Path.{_≡_};
-ghost use mathlib.Core.Bool.{Bool};
 ghost use mathlib.Core.List.{map};
 ghost use Prim.Native.Nat.{_+_, _/_, _<_, _≤_};
 ghost use lib.ListN.{length};
 ghost use lib.Seq.{sets};
-ghost use Rattle.line.specs.Point.{at, pairs, inRange};
+ghost use Rattle.line.specs.Point.{at, pairs};
+ghost use Rattle.deciding.specs.Sizes.{ringOf};
+ghost use Rattle.coding.specs.Rows.{Rows};
 ghost use Rattle.receiver.specs.Receiver.{receiver, point, refusal, stateNext, forgotten, next};
 ghost use Rattle.receiver.specs.Outcome.{stateOutcome, gapOutcome, outcome};
 ghost use Rattle.receiver.specs.Calls.{after};
-ghost use Rattle.blocks.specs.Block.{lineByte, plainByte, outcomes, EachAccepted, each, blockRefusal, Told, block, lineBytes, plainBytes, step};
+ghost use Rattle.blocks.specs.Block.{lineByte, plainByte, outcomes, EachAccepted, blockRefusal, Told, block, lineBytes, plainBytes, step};
 use receiver::Intervals;
 use receiver::Receiver;
 use receiver::Reference;
@@ -43,8 +44,8 @@ fn moved(s: Receiver, reference: Reference, line: Register) -> Receiver
 }
 
 // A point decided as the state y.
-fn take(s: Receiver, y: u8) -> Step
-    requires { ⌜ s .place .0 < 4294967295 ⌝ }
+fn take(rows: &[u8; 16], s: Receiver, y: u8) -> Step
+    requires { ⌜ Rows (s .mode) (now rows) × (s .place .0 < 4294967295) ⌝ }
     ensures { λ r. ⌜ r ≡ step (stateOutcome s (s .reference) y) (stateNext s (s .reference) y) ⌝ }
 {
     let reference = s.reference;
@@ -59,8 +60,8 @@ fn take(s: Receiver, y: u8) -> Step
             }
         }
         Reference::State(x) => {
-            let line = coding::group_of(s.mode, x, y);
-            let d = scrambler::descramble_group(s.mode, s.role, h, line);
+            let line = coding::group_by(s.mode, rows, x, y);
+            let d = scrambler::descramble_next(s.mode, s.role, h, line);
             let after = d.next;
             let plain = 16 * d.unsettled.0 + d.plain;
             let next = moved(s, Reference::State(y), after);
@@ -83,20 +84,18 @@ fn lose(s: Receiver) -> Step
     }
 }
 
-// A point that nothing refuses, so that it is in a sector.
-fn hear(s: Receiver, re: i16, im: i16) -> Step
-    requires { ⌜ refusal s (point (at re im)) ≡ 0 ⌝ }
+// A point that nothing refuses, so that it is the origin or in a sector.
+fn hear(ring: &[u8; 16], rows: &[u8; 16], s: Receiver, re: i16, im: i16) -> Step
+    requires { ⌜ (now ring ≡ ringOf (s .mode)) × Rows (s .mode) (now rows) × (refusal s (point (at re im)) ≡ 0) ⌝ }
     ensures { λ r. ⌜ r ≡ step (outcome s (point (at re im))) (next s (point (at re im))) ⌝ }
 {
-    let decision = deciding::decide(s.mode, re, im);
-    match decision {
-        deciding::Decision::State(y) => take(s, y),
-        deciding::Decision::Origin => lose(s),
-        deciding::Decision::NoSector => lose(s),
+    if deciding::is_origin(re, im) {
+        return lose(s);
     }
+    take(rows, s, deciding::state_at(s.mode, ring, re, im))
 }
 
-// Points that nothing refuses.
+// Points that nothing refuses. Every caller that takes many points comes through this loop, so that what it calls has one caller.
 fn hear_all(s: Receiver, points: &[i16], line: &mut [u8], plain: &mut [u8]) -> Receiver
     requires { ⌜ EachAccepted s (pairs (now points)) × (length (now points) / 2 ≤ length (now line)) × (length (now points) / 2 ≤ length (now plain)) ⌝ }
     ensures { λ r. ⌜ (r ≡ after s (map point (pairs (now (points .entry)))))
@@ -104,10 +103,12 @@ fn hear_all(s: Receiver, points: &[i16], line: &mut [u8], plain: &mut [u8]) -> R
         × (now (plain .exit) ≡ sets (now (plain .entry)) 0 (map plainByte (outcomes s (pairs (now (points .entry)))))) ⌝ }
 {
     let n = points.len() / 2;
+    let ring = deciding::ring_of(s.mode);
+    let rows = coding::rows_of(s.mode);
     let mut t = s;
     let mut k = 0;
     while k < n {
-        let h = hear(t, points[2 * k], points[2 * k + 1]);
+        let h = hear(&ring, &rows, t, points[2 * k], points[2 * k + 1]);
         line[k] = h.line;
         plain[k] = h.plain;
         let next = h.next;
@@ -115,19 +116,6 @@ fn hear_all(s: Receiver, points: &[i16], line: &mut [u8], plain: &mut [u8]) -> R
         k += 1;
     }
     t
-}
-
-// Whether every point is in range. All are looked at, since nearly always all are.
-fn all_in_range(points: &[i16]) -> bool
-    ensures { λ r. ⌜ r ≡ each inRange (pairs (now (points .entry))) ⌝ }
-{
-    let mut all = true;
-    let mut k = 0;
-    while k + 1 < points.len() {
-        all = all & line::in_range(points[k], points[k + 1]);
-        k += 2;
-    }
-    all
 }
 
 // The number that refuses a block with a and b lent bytes, 0 for none. Number 10 is not looked for: no point is in no sector.
@@ -140,7 +128,7 @@ fn block_fault(s: Receiver, points: &[i16], a: usize, b: usize) -> u8
     }
     let n = points.len() / 2;
     if (points.len() % 2 == 0) & (n <= a) & (n <= b) {
-        if all_in_range(points) {
+        if line::all_in_range(points) {
             if n <= (4294967295 - s.place.0) as usize {
                 return 0;
             }

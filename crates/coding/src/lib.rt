@@ -3,9 +3,11 @@ ghost use mathlib.Core.Path.{_≡_};
 ghost use mathlib.Core.Bool.{Bool, true, false, cond};
 ghost use Prim.Native.Nat.{ℕ, _+_, _*_, _≤_, _<_};
 ghost use lib.Dec.{eqb};
+ghost use lib.ListN.{getD};
 ghost use Rattle.line.specs.Table.{entry, firstRow};
 ghost use Rattle.line.specs.Mode.{face};
 ghost use Rattle.coding.specs.Code.{changes4, changes8, changes16, coded, turnRow, group};
+ghost use Rattle.coding.specs.Rows.{rowIndex, rowAt, withRow, Rows};
 
 // 000's tables 2 and 1: the changes of 2 and of 3 bits, in turns of 90° and of 45°. 001's table 1: the new Y1 Y2 by
 // Q1 Q2 and the previous Y1 Y2. Sender and receiver both read them.
@@ -93,20 +95,64 @@ fn row16(y: usize, z: u8) -> usize
     row_if(t[4 + y] == z, 1) + row_if(t[8 + y] == z, 2) + row_if(t[12 + y] == z, 3)
 }
 
+// The index of the row that leads from a reference to a state: the turns of 45° between them, or both quadrants.
+fn row_index(mode: u8, reference: u8, s: u8) -> usize
+    ensures { λ r. ⌜ r ≡ rowIndex mode reference s ⌝ }
+    ensures { λ r. ⌜ r < 16 ⌝ }
+{
+    if mode <= 2 {
+        ((s % 8 + 8 - reference % 8) % 8) as usize
+    } else {
+        (4 * (reference / 4 % 4) + s / 4 % 4) as usize
+    }
+}
+
+// The row at an index; in mode 4 times 4, since Q1 Q2 stand before Q3 Q4 in the group.
+fn row_at(mode: u8, i: usize) -> u8
+    ensures { λ r. ⌜ r ≡ rowAt mode i ⌝ }
+{
+    if mode <= 1 {
+        row4((i % 8 / 2) as u8) as u8
+    } else if mode == 2 {
+        row8((i % 8) as u8) as u8
+    } else if mode == 3 {
+        row16(i / 4 % 4, (i % 4) as u8) as u8
+    } else {
+        4 * row16(i / 4 % 4, (i % 4) as u8) as u8
+    }
+}
+
+// The group of a row and a state: in mode 4 with Q3 Q4.
+fn with_row(mode: u8, row: u8, s: u8) -> u8
+    ensures { λ r. ⌜ r ≡ withRow mode row s ⌝ }
+{
+    if mode <= 3 { row } else { row % 16 + s % 4 }
+}
+
 // The group of line bits that leads from a reference to a state.
 pub fn group_of(mode: u8, reference: u8, s: u8) -> u8
     ensures { λ r. ⌜ r ≡ group mode (face mode reference) s ⌝ }
 {
-    let turn = (s % 8 + 8 - reference % 8) % 8;
-    if mode <= 1 {
-        return row4(turn / 2) as u8;
+    with_row(mode, row_at(mode, row_index(mode, reference, s)), s)
+}
+
+// All rows of a mode, found once for a caller that looks up many.
+pub fn rows_of(mode: u8) -> [u8; 16]
+    ensures { λ r. ⌜ Rows mode r ⌝ }
+{
+    let mut rows = [0u8; 16];
+    let mut i = 0;
+    while i < 16 {
+        rows[i] = row_at(mode, i);
+        i += 1;
     }
-    if mode == 2 {
-        return row8(turn) as u8;
-    }
-    let row = row16((reference / 4 % 4) as usize, s / 4 % 4) as u8;
-    if mode == 3 {
-        return row;
-    }
-    4 * row + s % 4
+    rows
+}
+
+// The group by the rows of its mode, which the law `looked-up` asks for. It has one caller, the loop over a block's points: a large
+// function is put in line only there, and then what depends on the mode alone moves out of the loop.
+pub fn group_by(mode: u8, rows: &[u8; 16], reference: u8, s: u8) -> u8
+    ensures { λ r. ⌜ r ≡ withRow mode (getD (now (rows .entry)) (rowIndex mode reference s) 0) s ⌝ }
+{
+    with_row(mode, rows[row_index(mode, reference, s)], s)
 }

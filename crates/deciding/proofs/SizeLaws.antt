@@ -1,23 +1,21 @@
--- What the code decides on signs and sizes is what document 01 says of the point. Assumes nothing.
-use mathlib.Core.Path.{_≡_, refl, sym, ap, ap₂, _∙_, subst}
-use mathlib.Core.Bool.{Bool, true, false, _&&_, not, cond}
+-- What document 01 says of a point that is turns of one with re > 0 and im ≥ 0. Assumes nothing.
+use mathlib.Core.Path.{_≡_, refl, sym, ap, ap₂, _∙_}
+use mathlib.Core.Bool.{Bool, true, false, _&&_, cond}
 use Prim.Native.Nat.{ℕ, zero, suc, _+_, _*_, _-_, _/_, _%_, _<_, _≤_}
 use native.Mathlib.Omega.{arith}
-use native.Mathlib.Decide.{decLe, decLt}
-use borrow.Author.Tests.{le-leb, lt-leb, lt-ltb, le-ltb, eq-eqb, ne-eqb}
+use native.Mathlib.Decide.{decLe}
+use borrow.Author.Tests.{le-leb, lt-leb, ne-eqb}
 use lib.Dec.{T, eqb, leb, ltb, eqb→eq}
 use lib.ListN.{getD}
-use lib.IntN.{ℤ, pos, negsuc, negℤ, natAbs}
-use lib.Signed.{nonNeg}
 use Rattle.line.specs.declared.Point.{Point}
-use Rattle.deciding.specs.declared.Arc.{Arc}
 use Rattle.deciding.specs.declared.Decision.{Decision}
-use Rattle.deciding.specs.declared.Decision.the-variants.{State, Origin, NoSector}
+use Rattle.deciding.specs.declared.Decision.the-variants.{State, NoSector}
 use Rattle.line.specs.Table.{below, every}
 use Rattle.line.specs.Mode.{turn, turns, step, quarterSteps, quadrant, nextQuadrant}
-use Rattle.line.specs.Point.{at, isOrigin, turnedBy}
+use Rattle.line.specs.Point.{isOrigin, turnedBy}
 use Rattle.deciding.specs.Decide.{sector, outer, first, turnedAnswer, decide}
-use Rattle.deciding.specs.Sizes.{quarterOf, arc, arcOf, state1, ring3, state3, sq, decided2, ring4, outerSize, state4, decidedArc}
+use Rattle.deciding.specs.Sizes.{sq}
+use Rattle.deciding.proofs.Arcs.{arc, state1, ring3, state3, decided2, ring4, outerSize, state4, decidedArc}
 use Rattle.line.proofs.ByMode.{mode-1, mode-2, mode-3, mode-4}
 use Rattle.line.proofs.TableLaws.{below-at}
 use Rattle.deciding.proofs.RegionLaws.{Turn, turned-decide, base, turn-1, turn-1-past, turn-2, turn-3, turn-3-past, turn-4, turn-4-axis}
@@ -35,7 +33,7 @@ quarter-same : (m n : ℕ) → step m ≡ step n → quarterSteps m ≡ quarterS
 unfolding quarterSteps
 quarter-same m n e = ap (λ (d : ℕ). 90 / d) e
 
-not-zero : (n : ℕ) → eqb (suc n) 0 ≡ false
+pub not-zero : (n : ℕ) → eqb (suc n) 0 ≡ false
 not-zero n = ne-eqb (suc n) 0 (λ e. omega arith)
 
 module _ (m k a b : ℕ) (l : k < 4) where
@@ -166,33 +164,3 @@ arc-decide (suc (suc (suc (suc n)))) k a b l =
     let f : m ≡ 2 → ⊥ = λ e. omega arith in
     let g : m ≡ 3 → ⊥ = λ e. omega arith in
     arc-4 m (omega arith) f g k a b l ∙ sym (mode-4 _ _ _ _ m (omega arith) f g)
-
--- a point off the origin as turns of one with re > 0 and im ≥ 0
-pub by-sizes : (m : ℕ) (re im : ℤ) (k : ℕ) → k ≡ quarterOf (nonNeg re) (nonNeg im) (natAbs re) (natAbs im) → 0 < natAbs re + natAbs im
-    → decidedArc m (arcOf k (natAbs re) (natAbs im)) ≡ decide m (at re im)
-unfolding quarterOf arcOf
-by-sizes m (pos zero) (pos zero) k e p = absurd (omega arith)
-by-sizes m (pos (suc x)) (pos y) k e p = rw (e, not-zero x) (sym (arc-decide m 0 x y (omega arith)))
-by-sizes m (pos zero) (pos (suc y)) k e p = rw e (sym (arc-decide m 1 y 0 (omega arith)))
-by-sizes m (negsuc x) (pos (suc y)) k e p = rw (e, not-zero y) (sym (arc-decide m 1 y (suc x) (omega arith)))
-by-sizes m (negsuc x) (pos zero) k e p = rw e (sym (arc-decide m 2 x 0 (omega arith)))
-by-sizes m (negsuc x) (negsuc y) k e p = rw e (sym (arc-decide m 2 x (suc y) (omega arith)))
-by-sizes m (pos zero) (negsuc y) k e p = rw e (sym (arc-decide m 3 y 0 (omega arith)))
-by-sizes m (pos (suc x)) (negsuc y) k e p = rw e (sym (arc-decide m 3 y (suc x) (omega arith)))
-
-pub at-origin : (m : ℕ) (re im : ℤ) → natAbs re + natAbs im ≡ 0 → Origin ≡ decide m (at re im)
-unfolding decide isOrigin
-at-origin m re im e =
-    let x : natAbs re ≡ 0 = omega arith in
-    let y : natAbs im ≡ 0 = omega arith in
-    rw (eq-eqb (natAbs re) 0 x, eq-eqb (natAbs im) 0 y)
-
--- what `decide` puts together
-pub decide-law : (m : ℕ) (re im : ℤ) (x y k : ℕ) (right up : Bool) (t : Arc) (d : Decision) → x ≡ natAbs re → y ≡ natAbs im → right ≡ nonNeg re → up ≡ nonNeg im
-    → k ≡ quarterOf right up x y → t ≡ arcOf k x y → d ≡ decidedArc m t → (x + y ≡ 0 → ⊥) → d ≡ decide m (at re im)
-decide-law m re im x y k right up t d ex ey er eu ek et ed off =
-    ed ∙ ap (decidedArc m) (et ∙ ap₂ (arcOf k) ex ey)
-    ∙ by-sizes m re im k (ek ∙ ap₂ (λ (r u : Bool). quarterOf r u x y) er eu ∙ ap₂ (quarterOf (nonNeg re) (nonNeg im)) ex ey) (omega (arith, off))
-
-pub origin-law : (m : ℕ) (re im : ℤ) (x y : ℕ) → x ≡ natAbs re → y ≡ natAbs im → x + y ≡ 0 → Origin ≡ decide m (at re im)
-origin-law m re im x y ex ey z = at-origin m re im (omega arith)

@@ -1,12 +1,12 @@
 // Deciding a point: document 01.
 ghost use mathlib.Core.Path.{_≡_};
-ghost use mathlib.Core.Bool.{Bool, true, false, cond};
-ghost use Prim.Native.Nat.{ℕ, _+_, _*_, _≤_, _<_};
-ghost use lib.Dec.{eqb, leb, ltb};
-ghost use lib.Signed.{nonNeg};
-ghost use Rattle.line.specs.Point.{at};
+ghost use mathlib.Core.Bool.{true, false};
+ghost use Prim.Native.Nat.{_≤_};
+ghost use lib.IntN.{pos};
+ghost use lib.ListN.{getD};
+ghost use Rattle.line.specs.Point.{at, isOrigin};
 ghost use Rattle.deciding.specs.Decide.{decide as decideSpec};
-ghost use Rattle.deciding.specs.Sizes.{quarterOf, arcOf, Bounded, state1, decided2, state3, outerSize, state4, decidedArc};
+ghost use Rattle.deciding.specs.Sizes.{bitOf, belowOf, farOf, ringOf, ringIndex};
 use line::size;
 
 // What a point is decided as. The origin is no state, and a mode 2 point may lie in no sector.
@@ -16,166 +16,96 @@ pub enum Decision {
     NoSector,
 }
 
-// Turns of 90° of a point with re = along > 0 and im = across >= 0.
-pub struct Arc {
-    pub quarters: u8,
-    pub along: u32,
-    pub across: u32,
-}
-
-// Whether a coordinate is zero or more.
-fn not_below(x: i16) -> bool
-    ensures { λ r. ⌜ r ≡ nonNeg x ⌝ }
-{
-    0 <= x
-}
-
-// Neither a coordinate's sign nor a decision takes the code another way: it would be guessed wrong half of the time. Both
-// values are made, and one is picked.
-fn quarter_right(up: bool, x: u32) -> u8
-    ensures { λ r. ⌜ r ≡ cond up (cond (eqb x 0) 1 0) 3 ⌝ }
-    ensures { λ r. ⌜ r < 4 ⌝ }
-{
-    if up { if x == 0 { 1 } else { 0 } } else { 3 }
-}
-
-fn quarter_left(up: bool, y: u32) -> u8
-    ensures { λ r. ⌜ r ≡ cond up (cond (eqb y 0) 2 1) 2 ⌝ }
-    ensures { λ r. ⌜ r < 4 ⌝ }
-{
-    if up { if y == 0 { 2 } else { 1 } } else { 2 }
-}
-
-fn quarter(right: bool, up: bool, x: u32, y: u32) -> u8
-    ensures { λ r. ⌜ r ≡ quarterOf right up x y ⌝ }
-    ensures { λ r. ⌜ r < 4 ⌝ }
-{
-    let a = quarter_right(up, x);
-    let b = quarter_left(up, y);
-    if right { a } else { b }
-}
-
-fn arc_from(k: u8, x: u32, y: u32) -> Arc
-    requires { ⌜ (k < 4) × (x ≤ 32768) × (y ≤ 32768) ⌝ }
-    ensures { λ r. ⌜ r ≡ arcOf k x y ⌝ }
-    ensures { λ r. ⌜ Bounded r ⌝ }
-{
-    if k % 2 == 0 {
-        Arc {
-            quarters: k,
-            along: x,
-            across: y,
-        }
-    } else {
-        Arc {
-            quarters: k,
-            along: y,
-            across: x,
-        }
-    }
-}
-
-// 1 past the edge, at which `across` is `most`.
-fn past(across: u32, most: u32) -> u8
-    ensures { λ r. ⌜ r ≡ cond (leb across most) 0 1 ⌝ }
+// No sign and no size of a coordinate takes the code another way: it would be guessed wrong half of the time. A test becomes a
+// number, and the numbers are summed to an index into a table.
+fn bit(t: bool) -> usize
+    ensures { λ r. ⌜ r ≡ bitOf t ⌝ }
     ensures { λ r. ⌜ r ≤ 1 ⌝ }
 {
-    if across <= most { 0 } else { 1 }
+    if t { 1 } else { 0 }
 }
 
-fn decide1(t: Arc) -> u8
-    requires { ⌜ Bounded t ⌝ }
-    ensures { λ r. ⌜ r ≡ state1 t ⌝ }
+fn one_if(t: bool) -> i16
+    ensures { λ r. ⌜ r ≡ pos (bitOf t) ⌝ }
 {
-    (t.quarters + past(t.across, t.along)) % 4 * 2
+    if t { 1 } else { 0 }
 }
 
-const RING3: [u8; 4] = [13, 9, 1, 5];
-
-fn decide3(t: Arc) -> u8
-    requires { ⌜ Bounded t ⌝ }
-    ensures { λ r. ⌜ r ≡ state3 t ⌝ }
+// Whether a coordinate is below 0, or, with `one`, below 1.
+fn below(x: i16, one: bool) -> bool
+    ensures { λ r. ⌜ r ≡ belowOf x one ⌝ }
 {
-    let k = t.quarters as usize;
-    RING3[(k + past(t.across, 2 * t.along) as usize) % 4]
+    x < one_if(one)
 }
 
-// The turns of 45°, from s = (a + b)², x = 2·a² and y = 2·b².
-fn eighth(s: u64, x: u64, y: u64) -> u8
-    ensures { λ r. ⌜ r ≡ cond (ltb s x) 0 (cond (ltb s y) 2 1) ⌝ }
-    ensures { λ r. ⌜ r ≤ 2 ⌝ }
-{
-    if s < x {
-        0
-    } else if s < y {
-        2
-    } else {
-        1
-    }
-}
-
-fn decide2(t: Arc) -> Decision
-    requires { ⌜ Bounded t ⌝ }
-    ensures { λ r. ⌜ r ≡ decided2 t ⌝ }
-{
-    let a = t.along as u64;
-    let b = t.across as u64;
-    let sum = a + b;
-    let s = sum * sum;
-    let x = 2 * (a * a);
-    let y = 2 * (b * b);
-    let step = eighth(s, x, y);
-    if ((s == x) | (s == y)) & (step == 1) {
-        return Decision::NoSector;
-    }
-    Decision::State((t.quarters * 2 + step) % 8)
-}
-
-const RING4: [u8; 16] = [12, 13, 14, 15, 8, 9, 10, 11, 0, 1, 2, 3, 4, 5, 6, 7];
-
-fn outer_bit(x: u32) -> usize
-    ensures { λ r. ⌜ r ≡ outerSize x ⌝ }
-    ensures { λ r. ⌜ r ≤ 1 ⌝ }
-{
-    if 2048 <= x { 1 } else { 0 }
-}
-
-fn decide4(t: Arc) -> u8
-    requires { ⌜ Bounded t ⌝ }
-    ensures { λ r. ⌜ r ≡ state4 t ⌝ }
-{
-    let k = t.quarters as usize;
-    if t.across == 0 {
-        RING4[(k + 3) % 4 * 4 + outer_bit(t.along) * 2]
-    } else {
-        RING4[k * 4 + outer_bit(t.across) * 2 + outer_bit(t.along)]
-    }
-}
-
-fn decide_arc(mode: u8, t: Arc) -> Decision
-    requires { ⌜ Bounded t ⌝ }
-    ensures { λ r. ⌜ r ≡ decidedArc mode t ⌝ }
+// Whether the size y is the larger one by the mode's measure: past the edge between the states of an axis and those beside it, or
+// in mode 4 of level 3.
+fn far(mode: u8, x: u32, y: u32) -> bool
+    requires { ⌜ (x ≤ 32768) × (y ≤ 32768) ⌝ }
+    ensures { λ r. ⌜ r ≡ farOf mode x y ⌝ }
 {
     if mode <= 1 {
-        Decision::State(decide1(t))
+        x < y
     } else if mode == 2 {
-        decide2(t)
+        let a = x as u64;
+        let b = y as u64;
+        (a + b) * (a + b) < 2 * (b * b)
     } else if mode == 3 {
-        Decision::State(decide3(t))
+        2 * x < y
     } else {
-        Decision::State(decide4(t))
+        2048 <= y
     }
+}
+
+// The rings: the states of the quadrants I, II, IV and III, in each those where no size is far, im's, re's, both.
+const RING1: [u8; 16] = [0, 2, 0, 2, 2, 2, 4, 4, 6, 6, 0, 0, 4, 6, 4, 6];
+
+const RING2: [u8; 16] = [1, 2, 0, 0, 3, 2, 4, 2, 7, 6, 0, 6, 5, 6, 4, 4];
+
+const RING3: [u8; 16] = [13, 9, 13, 9, 9, 9, 1, 1, 5, 5, 13, 13, 1, 5, 1, 5];
+
+const RING4: [u8; 16] = [12, 14, 13, 15, 8, 9, 10, 11, 4, 5, 6, 7, 0, 2, 1, 3];
+
+// The ring of a mode. A caller binds it once before a loop: a constant is built anew at each use.
+pub fn ring_of(mode: u8) -> [u8; 16]
+    ensures { λ r. ⌜ r ≡ ringOf mode ⌝ }
+{
+    if mode <= 1 {
+        RING1
+    } else if mode == 2 {
+        RING2
+    } else if mode == 3 {
+        RING3
+    } else {
+        RING4
+    }
+}
+
+// Whether a point is the origin, which is no state.
+pub fn is_origin(re: i16, im: i16) -> bool
+    ensures { λ r. ⌜ r ≡ isOrigin (at re im) ⌝ }
+{
+    (size(re) == 0) & (size(im) == 0)
+}
+
+// The state of a point off the origin, by its mode's ring, which the law `looked-up` asks for. There is one formula for all modes.
+pub fn state_at(mode: u8, ring: &[u8; 16], re: i16, im: i16) -> u8
+    ensures { λ r. ⌜ r ≡ getD (now (ring .entry)) (ringIndex mode re im) 0 ⌝ }
+{
+    let x = size(re);
+    let y = size(im);
+    let down = bit(below(im, !below(re, true)));
+    let left = bit(below(re, below(im, false)));
+    ring[8 * down + 4 * left + (2 * bit(far(mode, y, x)) + bit(far(mode, x, y)))]
 }
 
 // The state of a point, for every pair of coordinates.
 pub fn decide(mode: u8, re: i16, im: i16) -> Decision
     ensures { λ r. ⌜ r ≡ decideSpec mode (at re im) ⌝ }
 {
-    let x = size(re);
-    let y = size(im);
-    if x + y == 0 {
+    if is_origin(re, im) {
         return Decision::Origin;
     }
-    let k = quarter(not_below(re), not_below(im), x, y);
-    decide_arc(mode, arc_from(k, x, y))
+    let ring = ring_of(mode);
+    Decision::State(state_at(mode, &ring, re, im))
 }

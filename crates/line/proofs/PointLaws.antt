@@ -1,18 +1,31 @@
 -- What the public functions on points give, from what their callees ensure; and the points of a list of numbers. Assumes nothing.
-use mathlib.Core.Path.{_≡_, refl, ap, ap₂, _∙_}
-use mathlib.Core.Bool.{_&&_}
+use mathlib.Core.Path.{_≡_, refl, sym, ap, ap₂, _∙_}
+use mathlib.Core.Bool.{Bool, _&&_, and-true, and-assoc}
 use mathlib.Core.List.{List, [], _∷_}
 use Prim.Native.Nat.{ℕ, suc, _+_, _/_, _≤_, _<_}
 use native.Mathlib.Omega.{arith}
-use lib.Dec.{leb}
-use lib.IntN.{ℤ, pos, natAbs}
-use lib.ListN.{length, getD, drop, length-drop}
+use lib.Dec.{leb, leb·suc-suc}
+use lib.IntN.{ℤ, pos, negsuc}
+use lib.Signed.{leZ}
+use lib.ListN.{length, getD, drop, length-drop, drop-of-length-le}
 use lib.Seq.{drop-cons}
-use Rattle.line.specs.Point.{at, pairs, inRange}
+use Rattle.line.specs.Point.{at, pairs, coordinateIn, coordinatesIn}
 
-pub in-range-law : (re im : ℤ) (x y : ℕ) → x ≡ natAbs re → y ≡ natAbs im → leb x 16384 && leb y 16384 ≡ inRange (at re im)
-unfolding inRange
-in-range-law re im x y e f = ap₂ (λ (a b : ℕ). leb a 16384 && leb b 16384) e f
+-- the two tests of a coordinate
+pub coordinate-in : (x : ℤ) → (leZ (negsuc 16383) x && leZ x (pos 16384)) ≡ coordinateIn x
+coordinate-in (pos n) = refl
+coordinate-in (negsuc n) = and-true (leb n 16383) ∙ sym (leb·suc-suc n 16383)
+
+-- the coordinates from number k on
+module _ (zs : List ℤ) (k : ℕ) (all : Bool) where
+  pub range-step : (b : Bool) → coordinatesIn zs ≡ all && coordinatesIn (drop k zs) → k < length zs → b ≡ coordinateIn (getD zs k (pos 0))
+      → coordinatesIn zs ≡ (all && b) && coordinatesIn (drop (k + 1) zs)
+  range-step b e h q =
+      e ∙ ap (λ (l : List ℤ). all && coordinatesIn l) (drop-cons zs k (pos 0) h) ∙ sym (and-assoc all (coordinateIn (getD zs k (pos 0))) (coordinatesIn (drop (suc k) zs)))
+      ∙ ap₂ (λ (c : Bool) (n : ℕ). (all && c) && coordinatesIn (drop n zs)) (sym q) (let f : suc k ≡ k + 1 = omega arith in f)
+
+  pub range-end : coordinatesIn zs ≡ all && coordinatesIn (drop k zs) → length zs ≤ k → all ≡ coordinatesIn zs
+  range-end e h = sym (e ∙ ap (λ (l : List ℤ). all && coordinatesIn l) (drop-of-length-le zs h) ∙ and-true all)
 
 -- the points from number k on
 pub pairs-step : (zs : List ℤ) (k : ℕ) → k + 1 < length zs

@@ -1,6 +1,6 @@
 -- Document 01, "Modes, states, turns": points, their turns, and the point sent for a state.
 use Prim.Native.Nat.{ℕ, zero, suc, _%_}
-use mathlib.Core.Bool.{Bool, true, false, _&&_}
+use mathlib.Core.Bool.{Bool, true, _&&_}
 use mathlib.Core.List.{List, [], _∷_, map}
 use lib.Dec.{eqb, leb}
 use lib.ListN.{getD}
@@ -18,9 +18,18 @@ pairs [] = []
 pairs (x ∷ []) = []
 pairs (x ∷ y ∷ zs) = at x y ∷ pairs zs
 
--- each coordinate lies from -16384 to 16384
+-- a coordinate lies from -16384 to 16384
+abbrev pub coordinateIn : ℤ → Bool
+coordinateIn x = leb (natAbs x) 16384
+
+-- each coordinate of a point does
 unfoldable pub inRange : Point → Bool
-inRange p = leb (natAbs (p .re)) 16384 && leb (natAbs (p .im)) 16384
+inRange p = coordinateIn (p .re) && coordinateIn (p .im)
+
+-- and each of a list
+abbrev pub coordinatesIn : List ℤ → Bool
+coordinatesIn [] = true
+coordinatesIn (x ∷ xs) = coordinateIn x && coordinatesIn xs
 
 unfoldable pub isOrigin : Point → Bool
 isOrigin p = eqb (natAbs (p .re)) 0 && eqb (natAbs (p .im)) 0

@@ -3,7 +3,7 @@ ghost use mathlib.Core.Path.{_≡_};
 ghost use Prim.Native.Nat.{_≤_};
 ghost use lib.IntN.{natAbs};
 ghost use Rattle.line.specs.Mode.{isMode, isRole, width, regLen, isState};
-ghost use Rattle.line.specs.Point.{at, inRange, sentPoint};
+ghost use Rattle.line.specs.Point.{at, coordinateIn, inRange, coordinatesIn, sentPoint};
 ghost use Rattle.line.specs.Constellation.{sentPoints};
 
 // A point: 1024 to one level.
@@ -160,11 +160,31 @@ pub fn size(x: i16) -> u32
     }
 }
 
-// Whether both coordinates lie from -16384 to 16384.
+// Whether a coordinate lies from -16384 to 16384. It is compared as it stands, not by its size: so many are compared at once.
+pub fn coordinate_ok(x: i16) -> bool
+    ensures { λ r. ⌜ r ≡ coordinateIn x ⌝ }
+{
+    (-16384 <= x) & (x <= 16384)
+}
+
+// Whether both coordinates of a point do.
 pub fn in_range(re: i16, im: i16) -> bool
     ensures { λ r. ⌜ r ≡ inRange (at re im) ⌝ }
 {
-    (size(re) <= 16384) & (size(im) <= 16384)
+    coordinate_ok(re) & coordinate_ok(im)
+}
+
+// Whether each of many coordinates does. All are looked at, since nearly always all are in range.
+pub fn all_in_range(numbers: &[i16]) -> bool
+    ensures { λ r. ⌜ r ≡ coordinatesIn (now (numbers .entry)) ⌝ }
+{
+    let mut all = true;
+    let mut k = 0;
+    while k < numbers.len() {
+        all = all & coordinate_ok(numbers[k]);
+        k += 1;
+    }
+    all
 }
 
 // The points of the states 0 to 15. A caller binds them once before a loop: a constant is built anew at each use.

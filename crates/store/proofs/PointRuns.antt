@@ -1,27 +1,19 @@
 -- The points of a record, one after the other. Assumes nothing.
 use mathlib.Core.Path.{_≡_, refl, sym, ap, ap₂, _∙_}
-use mathlib.Core.Bool.{Bool, true, false, _&&_, and-true, and-false, and-assoc}
+use mathlib.Core.Bool.{Bool, true, _&&_, and-true, and-false, and-assoc}
 use mathlib.Core.List.{List, [], _∷_}
 use Prim.Native.Nat.{ℕ, zero, suc, _+_, _*_, _-_, _≤_, _<_}
 use native.Mathlib.Omega.{arith}
 use borrow.Author.Tests.{eqb-true}
-use lib.Dec.{eqb, leb, leb·suc-suc}
-use lib.IntN.{ℤ, pos, negsuc, natAbs}
-use lib.Signed.{leZ}
+use lib.Dec.{eqb}
 use lib.ListN.{getD, drop}
 use lib.Seq.{drop-drop}
-use Rattle.line.specs.declared.Point.{Point}
 use Rattle.line.specs.Point.{at, inRange}
 use Rattle.octets.specs.Number.{u16, i16, signed, zeros}
 use Rattle.octets.proofs.Numbers.{u16-drop}
 use Rattle.octets.proofs.Tests.{by-test, and-split}
 use Rattle.octets.proofs.Loops.{zeros-drop}
 use Rattle.store.specs.Layout.{pointAt, pointsOk}
-
--- the two tests of a coordinate
-pub coordinate-in : (x : ℤ) → (leZ (negsuc 16383) x && leZ x (pos 16384)) ≡ leb (natAbs x) 16384
-coordinate-in (pos n) = refl
-coordinate-in (negsuc n) = and-true (leb n 16383) ∙ sym (leb·suc-suc n 16383)
 
 -- the point at byte a of a record
 pub point-at : (r : List ℕ) (a : ℕ) → pointAt (drop a r) ≡ at (i16 r a) (i16 r (a + 2))

@@ -1,4 +1,5 @@
 // The records of a track store, their chain, and numbers 11 to 15. Document 01, "Track store".
+use line::coordinate_ok;
 use line::mode_ok;
 use line::role_ok;
 use octets::get_i16;
@@ -10,8 +11,6 @@ ghost use mathlib.Core.Path.{_≡_};
 ghost use mathlib.Core.Bool.{true, false, _&&_};
 ghost use mathlib.Core.List.{[], _∷_};
 ghost use Prim.Native.Nat.{_+_, _*_, _≤_, _<_, max};
-ghost use lib.Dec.{leb};
-ghost use lib.IntN.{natAbs};
 ghost use lib.ListN.{length, drop};
 ghost use lib.Seq.{sets};
 ghost use Rattle.line.specs.Point.{inRange};
@@ -30,13 +29,6 @@ pub const TOTAL_AT: usize = 8;
 pub const MARK: [u8; 4] = *b"VSYM";
 
 // ---- records
-
-// Whether a coordinate lies in range.
-pub fn coordinate_ok(x: i16) -> bool
-    ensures { λ b. ⌜ b ≡ leb (natAbs x) 16384 ⌝ }
-{
-    (-16384 <= x) & (x <= 16384)
-}
 
 // Whether a point at byte `at` lies in range.
 fn point_ok(r: &[u8], at: usize) -> bool

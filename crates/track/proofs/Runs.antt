@@ -1,18 +1,17 @@
 -- Points appended one after the other. Assumes nothing.
 use mathlib.Core.Path.{_≡_, refl, sym, ap, ap₂, _∙_, subst}
-use mathlib.Core.Bool.{Bool, true, false, _&&_, cond, and-true, and-assoc}
+use mathlib.Core.Bool.{Bool, true, false, _&&_, and-assoc}
 use mathlib.Core.List.{List, [], _∷_}
 use Prim.Native.Nat.{ℕ, zero, suc, _+_, _-_, _*_, _/_, _%_, _≤_, _<_, min}
 use native.Mathlib.Nat.{add-zero, sub-zero, min-le-left, min-le-right}
-use native.Mathlib.Numerals.{add-one}
 use native.Mathlib.Omega.{arith}
-use borrow.Author.Tests.{eqb-true, eqb-false, eq-eqb, ne-eqb, leb-true, ltb-true, le-leb, lt-ltb}
+use borrow.Author.Tests.{eq-eqb, ne-eqb, leb-true, ltb-true, le-leb, lt-ltb}
 use lib.Dec.{eqb, leb, ltb}
-use lib.IntN.{ℤ, pos, natAbs}
+use lib.IntN.{ℤ, pos}
 use lib.ListN.{length, getD, take, drop, length-drop}
-use lib.Seq.{sets, length-sets, drop-cons, take-all}
+use lib.Seq.{sets, length-sets, take-all}
 use Rattle.line.specs.declared.Point.{Point}
-use Rattle.line.specs.Point.{at, pairs, inRange}
+use Rattle.line.specs.Point.{at, pairs, coordinateIn, inRange, coordinatesIn}
 use Rattle.line.proofs.PointLaws.{pairs-step, pairs-end, pairs-length}
 use Rattle.octets.proofs.Tests.{by-test}
 use Rattle.octets.specs.Number.{le32}
@@ -81,20 +80,16 @@ unfolding fit
 fit-some zero t room n h = absurd (h refl)
 fit-some (suc number) t room n h = refl
 
--- one point more looked at
-pub range-step : (zs : List ℤ) (n k : ℕ) (all so-far a b : Bool) → k < n → 2 * n ≤ length zs → a ≡ leb (natAbs (getD zs (2 * k) (pos 0))) 16384
-    → b ≡ leb (natAbs (getD zs (2 * k + 1) (pos 0))) 16384 → all ≡ (so-far && firstIn (n - k) (pairs (drop (2 * k) zs)))
-    → all ≡ (so-far && (a && b) && firstIn (n - (k + 1)) (pairs (drop (2 * (k + 1)) zs)))
+-- the first n points are in range when each of their coordinates is
+pub first-in : (n : ℕ) (zs : List ℤ) → 2 * n ≤ length zs → coordinatesIn (take (2 * n) zs) ≡ firstIn n (pairs zs)
 unfolding inRange
-range-step zs n k all so-far a b h l p q e =
-    e ∙ ap₂ (λ (m : ℕ) (ps : List Point). so-far && firstIn m ps) (let z : n - k ≡ suc (n - (k + 1)) = omega arith in z) (pairs-step zs (2 * k) (omega arith))
-    ∙ ap₂ (λ (x y : Bool). so-far && (x && y && firstIn (n - (k + 1)) (pairs (drop (2 * k + 2) zs)))) (sym p) (sym q)
-    ∙ ap (λ (m : ℕ). so-far && (a && b && firstIn (n - (k + 1)) (pairs (drop m zs)))) (let z : 2 * k + 2 ≡ 2 * (k + 1) = omega arith in z)
-    ∙ sym (and-assoc so-far (a && b) (firstIn (n - (k + 1)) (pairs (drop (2 * (k + 1)) zs))))
-
-pub range-end : (zs : List ℤ) (n k : ℕ) (all so-far : Bool) → n ≤ k → all ≡ (so-far && firstIn (n - k) (pairs (drop (2 * k) zs))) → so-far ≡ all
-range-end zs n k all so-far h e =
-    sym (e ∙ ap (λ (m : ℕ). so-far && firstIn m (pairs (drop (2 * k) zs))) (let z : n - k ≡ 0 = omega arith in z) ∙ and-true so-far)
+first-in zero zs h = refl
+first-in (suc n) [] h = absurd (omega arith)
+first-in (suc n) (x ∷ []) h = absurd (omega arith)
+first-in (suc n) (x ∷ y ∷ zs) h =
+    ap (λ (m : ℕ). coordinatesIn (take m (x ∷ y ∷ zs))) (let e : 2 * suc n ≡ suc (suc (2 * n)) = omega arith in e)
+    ∙ sym (and-assoc (coordinateIn x) (coordinateIn y) (coordinatesIn (take (2 * n) zs)))
+    ∙ ap (λ (b : Bool). (coordinateIn x && coordinateIn y) && b) (first-in n zs (omega arith))
 
 seen-in : (t room : ℕ) (p : Point) → t + 1 ≤ 4294967295 → 0 < room → pointSeen 0 t room p ≡ need (inRange p) 8 0
 unfolding pointSeen

@@ -1,4 +1,5 @@
 // The track store: making it, and appending points and lost intervals. Document 01, "Track store".
+use line::all_in_range;
 use line::in_range;
 use line::mode_ok;
 use line::role_ok;
@@ -13,7 +14,6 @@ use octets::put32;
 use store::MARK;
 use store::TOTAL_AT;
 use store::View;
-use store::coordinate_ok;
 use store::inspect;
 use store::link_in;
 use store::need;
@@ -277,18 +277,13 @@ fn each_number(number: u8, total: usize, room: usize, points: &[i16]) -> u8
     0
 }
 
-// Whether the first n points are in range. Every one is looked at, so that many are compared at once.
+// Whether the first n points are in range.
 fn points_in_range(points: &[i16], n: usize) -> bool
     requires { ⌜ 2 * n ≤ length (now points) ⌝ }
     ensures { λ b. ⌜ b ≡ firstIn n (pairs (now (points .entry))) ⌝ }
 {
-    let mut fine = true;
-    let mut k = 0;
-    while k < n {
-        fine = fine & (coordinate_ok(points[2 * k]) & coordinate_ok(points[2 * k + 1]));
-        k += 1;
-    }
-    fine
+    let end = 2 * n;
+    all_in_range(&points[..end])
 }
 
 // How many of n points only number 8 can refuse.

@@ -4,18 +4,24 @@ use mir.Syntax.{w16}
 use borrow.Author.Needs.{sfits-of}
 use mathlib.Core.Path.{refl}
 use Prim.Native.Nat.{_-_}
-use Rattle.blocks.proofs.BlockLaws.{Hearing, hearing-start, hearing-free, hearing-step, hearing-end}
+use Rattle.blocks.proofs.BlockLaws.{Hearing, hearing-start, hearing-tables, hearing-free, hearing-step, hearing-end}
 use Rattle.blocks.proofs.hear_all.Statement.{statement}
 use Rattle.blocks.proofs.hear_all.Tie as tie
 
 abbrev Inv-loop : tie.InvT-loop
-Inv-loop points line₀ plain₀ n t₀ k₀ line plain t k = Hearing t₀ line₀ plain₀ points t line plain k
+Inv-loop points line₀ plain₀ n ring rows t₀ k₀ line plain t k = Hearing t₀ line₀ plain₀ points t line plain k
 
 abbrev μ-loop : tie.MeasureT-loop
-μ-loop points line₀ plain₀ n t₀ k₀ line plain t k = n - k
+μ-loop points line₀ plain₀ n ring rows t₀ k₀ line plain t k = n - k
+
+ring-of-requires : tie.Need-ring-of-requires Inv-loop μ-loop
+ring-of-requires c κs = search needs
+
+rows-of-requires : tie.Need-rows-of-requires Inv-loop μ-loop
+rows-of-requires c κs = search needs
 
 loop-holds : tie.Need-loop-holds Inv-loop μ-loop
-loop-holds c = hearing-start _ _ _ _ (c .before .before .pre .0)
+loop-holds c = hearing-start _ _ _ _ (c .before .before .before .before .pre .0)
 
 mul-hear : tie.Need-mul-hear Inv-loop μ-loop
 mul-hear c = search needs
@@ -40,9 +46,10 @@ shared-slice-copy-out-hear-2 c = search needs
 
 hear-requires : tie.Need-hear-requires Inv-loop μ-loop
 hear-requires c κs =
-    let l = c .before .before .before .loop in
+    let l = c .before .before .before .before .before .loop in
+    let t = hearing-tables _ _ _ _ (l .t) (l .line) (l .plain) (l .k) (l .inv) _ _ (c .before .before .before .before .before .before .before .ring-of .ensures) (c .before .before .before .before .before .before .rows-of .ensures) in
     rw (toZ-ofZ (sfits-of {w = w16} (c .before .hear-arg .given)), toZ-ofZ (sfits-of {w = w16} (c .hear-arg2 .given)))
-    (hearing-free _ _ _ _ (l .t) (l .line) (l .plain) (l .k) (l .inv) (c .before .before .loop-test .taken))
+    (t .0, t .1, hearing-free _ _ _ _ (l .t) (l .line) (l .plain) (l .k) (l .inv) (c .before .before .before .before .loop-test .taken))
 
 slice-write-line : tie.Need-slice-write-line Inv-loop μ-loop
 slice-write-line c = search needs
@@ -58,9 +65,9 @@ loop-less c = search needs
 
 loop-again : tie.Need-loop-again Inv-loop μ-loop
 loop-again c =
-    let l = c .before .before .before .before .before .loop in
+    let l = c .before .before .before .before .before .before .before .loop in
     let e = rw (toZ-ofZ (sfits-of {w = w16} (c .before .before .before .hear-arg .given)), toZ-ofZ (sfits-of {w = w16} (c .before .before .hear-arg2 .given))) at (c .before .hear .ensures) in
-    hearing-step _ _ _ _ (l .t) (l .line) (l .plain) (l .k) (l .inv) (c .before .before .before .before .loop-test .taken) _ _ _ e refl refl (search needs) (search needs)
+    hearing-step _ _ _ _ (l .t) (l .line) (l .plain) (l .k) (l .inv) (c .before .before .before .before .before .before .loop-test .taken) _ _ _ e refl refl (search needs) (search needs)
 
 same-length : tie.Need-same-length Inv-loop μ-loop
 same-length c = search needs
@@ -77,6 +84,8 @@ hear-all-spec =
     (tie.spec
     Inv-loop
     μ-loop
+    ring-of-requires
+    rows-of-requires
     loop-holds
     mul-hear
     mul-hear-2

@@ -1,20 +1,22 @@
 use mir.Facts.{toZ-ofZ}
-use Rattle.line.proofs.PointLaws.{in-range-law}
 use borrow.Author.Needs.{needs}
+use Rattle.line.specs.Point.{inRange}
 use Rattle.line.proofs.in_range.Statement.{statement}
 use Rattle.line.proofs.in_range.Tie as tie
-use Rattle.line.proofs.in_range.Reads as reads
-use Rattle.line.proofs.in_range.Lts as lts
-use Rattle.line.proofs.size.Reads as size-reads
 
-size-requires : tie.Need-size-requires
-size-requires c κs = search needs
+coordinate-ok-requires : tie.Need-coordinate-ok-requires
+coordinate-ok-requires c κs = search needs
 
-size-requires-2 : tie.Need-size-requires-2
-size-requires-2 c κs = search needs
+coordinate-ok-requires-2 : tie.Need-coordinate-ok-requires-2
+coordinate-ok-requires-2 c κs = search needs
 
 returns : tie.Need-returns
-returns c = in-range-law (c .before .before .args .re) (c .before .before .args .im) _ _ (rw (toZ-ofZ (c .before .before .fits .re)) at (c .before .size .ensures .0)) (rw (toZ-ofZ (c .before .before .fits .im)) at (c .size2 .ensures .0))
+unfolding inRange
+returns c =
+    let f = c .before .before .fits in
+    let x = rw (toZ-ofZ (f .re)) at (c .before .coordinate-ok .ensures) in
+    let y = rw (toZ-ofZ (f .im)) at (c .coordinate-ok2 .ensures) in
+    cc (x, y)
 
 pub in-range-spec : {M : Type 1} → statement M
-in-range-spec = tie.close (tie.spec size-requires size-requires-2 returns)
+in-range-spec = tie.close (tie.spec coordinate-ok-requires coordinate-ok-requires-2 returns)

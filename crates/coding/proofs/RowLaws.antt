@@ -1,0 +1,85 @@
+-- A group is found by its row. Assumes nothing.
+use mathlib.Core.Path.{_≡_, refl, sym, ap, ap₂, _∙_}
+use mathlib.Core.List.{List}
+use Prim.Native.Nat.{ℕ, zero, suc, _+_, _*_, _-_, _/_, _%_, _<_, _≤_}
+use native.Mathlib.Omega.{arith}
+use native.Mathlib.Decide.{decLt}
+use lib.Dec.{eqb}
+use lib.ListN.{length, getD, set}
+use lib.Seq.{getD-set-same, getD-set-other}
+use Rattle.line.specs.Table.{entry, firstRow}
+use Rattle.line.specs.Mode.{face, quadrant}
+use Rattle.line.proofs.ByMode.{mode-4, by-all}
+use Rattle.line.proofs.TableLaws.{row-below}
+use Rattle.coding.specs.Code.{changes4, changes8, changes16, eighths, turnRow, group}
+use Rattle.coding.specs.Rows.{rowIndex, rowAt, withRow, Rows}
+use Rattle.coding.proofs.CodeLaws.{group-1, group-2, group-3, group-4}
+
+row-most : (y z : ℕ) → turnRow y z ≤ 3
+unfolding turnRow
+row-most y z = row-below (λ g. eqb (entry changes16 (4 * g + y)) z) 0 3
+
+module _ (x s : ℕ) where
+  abbrev turn8 : ℕ
+  turn8 = (s % 8 + 8 - x % 8) % 8
+
+  abbrev both : ℕ
+  both = 4 * (x / 4 % 4) + s / 4 % 4
+
+  row-1 : firstRow (λ g. eqb (entry changes4 g) (turn8 % 8 / 2)) 3 ≡ firstRow (λ g. eqb (entry changes4 g) (turn8 / 2)) 3
+  row-1 = ap (λ (i : ℕ). firstRow (λ g. eqb (entry changes4 g) (i / 2)) 3) (let e : turn8 % 8 ≡ turn8 = omega arith in e)
+
+  row-2 : firstRow (λ g. eqb (entry changes8 g) (turn8 % 8)) 7 ≡ firstRow (λ g. eqb (entry changes8 g) turn8) 7
+  row-2 = ap (λ (i : ℕ). firstRow (λ g. eqb (entry changes8 g) i) 7) (let e : turn8 % 8 ≡ turn8 = omega arith in e)
+
+  row-3 : turnRow (both / 4 % 4) (both % 4) ≡ turnRow (x / 4 % 4) (s / 4 % 4)
+  row-3 = ap₂ turnRow (let e : both / 4 % 4 ≡ x / 4 % 4 = omega arith in e) (let e : both % 4 ≡ s / 4 % 4 = omega arith in e)
+
+  pub group-by-row : (m : ℕ) → withRow m (rowAt m (rowIndex m x s)) s ≡ group m (face m x) s
+  unfolding withRow rowAt rowIndex eighths quadrant
+  group-by-row zero = group-1 0 x s _ (omega arith) row-1
+  group-by-row (suc zero) = group-1 1 x s _ (omega arith) row-1
+  group-by-row (suc (suc zero)) = group-2 2 x s _ refl row-2
+  group-by-row (suc (suc (suc zero))) = group-3 3 x s _ refl row-3
+  group-by-row (suc (suc (suc (suc n)))) =
+      let m : ℕ = suc (suc (suc (suc n))) in
+      let f : m ≡ 2 → ⊥ = λ e. omega arith in
+      let g : m ≡ 3 → ⊥ = λ e. omega arith in
+      let r : ℕ = rowAt m (rowIndex m x s) in
+      let p : rowIndex m x s ≡ both = mode-4 _ _ _ _ m (omega arith) f g in
+      let q : rowAt m (rowIndex m x s) ≡ 4 * turnRow (both / 4 % 4) (both % 4) = mode-4 _ _ _ _ m (omega arith) f g ∙ ap (λ (i : ℕ). 4 * turnRow (i / 4 % 4) (i % 4)) p in
+      let z : turnRow (both / 4 % 4) (both % 4) ≤ 3 = row-most (both / 4 % 4) (both % 4) in
+      mode-4 r r r (r % 16 + s % 4) m (omega arith) f g ∙ ap (λ (i : ℕ). i % 16 + s % 4) q
+      ∙ (let e : 4 * turnRow (both / 4 % 4) (both % 4) % 16 + s % 4 ≡ 4 * turnRow (both / 4 % 4) (both % 4) + s % 4 = omega arith in e)
+      ∙ group-4 m x s _ (omega arith) f g row-3
+
+pub row-alone : (m row s : ℕ) → m ≤ 3 → row ≡ withRow m row s
+unfolding withRow
+row-alone zero row s h = refl
+row-alone (suc zero) row s h = refl
+row-alone (suc (suc zero)) row s h = refl
+row-alone (suc (suc (suc zero))) row s h = refl
+row-alone (suc (suc (suc (suc n)))) row s h = absurd (omega arith)
+
+pub row-and-low : (m row s : ℕ) → 3 < m → row % 16 + s % 4 ≡ withRow m row s
+unfolding withRow
+row-and-low m row s h = sym (mode-4 _ _ _ _ m (omega arith) (λ e. omega arith) (λ e. omega arith))
+
+pub index-small : (m x s : ℕ) → rowIndex m x s < 16
+unfolding rowIndex eighths quadrant
+index-small m x s = by-all (λ (i : ℕ). i < 16) _ _ _ _ (omega arith) (omega arith) (omega arith) (omega arith) m
+
+-- one more row
+pub filled : (m i v : ℕ) (rows : List ℕ) → length rows ≡ 16 → i < 16 → ((j : ℕ) → j < i → getD rows j 0 ≡ rowAt m j) → v ≡ rowAt m i
+    → (j : ℕ) → j < i + 1 → getD (set rows i v) j 0 ≡ rowAt m j
+filled m i v rows l h f e j k = go (decLt j i)
+  where
+    go : Dec (j < i) → getD (set rows i v) j 0 ≡ rowAt m j
+    go (yes p) = getD-set-other rows i j v 0 (λ q. omega arith) ∙ f j p
+    go (no p) =
+        let q : j ≡ i = omega (arith, p) in
+        ap (λ (n : ℕ). getD (set rows i v) n 0) q ∙ getD-set-same rows i v 0 (omega arith) ∙ e ∙ ap (rowAt m) (sym q)
+
+-- the group of a looked-up row
+pub looked-up : (m x s : ℕ) (rows : List ℕ) → Rows m rows → withRow m (getD rows (rowIndex m x s) 0) s ≡ group m (face m x) s
+looked-up m x s rows t = ap (λ (k : ℕ). withRow m k s) (t .at (rowIndex m x s) (index-small m x s)) ∙ group-by-row x s m

@@ -1,0 +1,82 @@
+use Rattle.line.proofs.Tests.{tests}
+use Rattle.coding.specs.Rows.{rowAt}
+use borrow.Author.Needs.{needs}
+use Rattle.coding.proofs.row_at.Statement.{statement}
+use Rattle.coding.proofs.row_at.Tie as tie
+
+cast-row4 : tie.Need-cast-row4
+cast-row4 c = search needs
+
+row4-requires : tie.Need-row4-requires
+row4-requires c κs = search needs
+
+cast-result : tie.Need-cast-result
+cast-result c = search needs
+
+cast-row8 : tie.Need-cast-row8
+cast-row8 c = search needs
+
+row8-requires : tie.Need-row8-requires
+row8-requires c κs = search needs
+
+cast-result-2 : tie.Need-cast-result-2
+cast-result-2 c = search needs
+
+cast-row16 : tie.Need-cast-row16
+cast-row16 c = search needs
+
+row16-requires : tie.Need-row16-requires
+row16-requires c κs = search needs
+
+cast-result-3 : tie.Need-cast-result-3
+cast-result-3 c = search needs
+
+cast-row16-2 : tie.Need-cast-row16-2
+cast-row16-2 c = search needs
+
+row16-requires-2 : tie.Need-row16-requires-2
+row16-requires-2 c κs = search needs
+
+cast-result-4 : tie.Need-cast-result-4
+cast-result-4 c = search needs
+
+mul-result : tie.Need-mul-result
+mul-result c = search needs
+
+returns : tie.Need-returns
+unfolding rowAt
+returns c = search tests
+
+returns-2 : tie.Need-returns-2
+unfolding rowAt
+returns-2 c = search tests
+
+returns-3 : tie.Need-returns-3
+unfolding rowAt
+returns-3 c = search tests
+
+returns-4 : tie.Need-returns-4
+unfolding rowAt
+returns-4 c = rw (c .row162 .ensures .0) (search tests)
+
+pub row-at-spec : {M : Type 1} → statement M
+row-at-spec =
+    tie.close
+    (tie.spec
+    cast-row4
+    row4-requires
+    cast-result
+    cast-row8
+    row8-requires
+    cast-result-2
+    cast-row16
+    row16-requires
+    cast-result-3
+    cast-row16-2
+    row16-requires-2
+    cast-result-4
+    mul-result
+    returns
+    returns-2
+    returns-3
+    returns-4)

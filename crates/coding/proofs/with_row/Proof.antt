@@ -1,0 +1,16 @@
+use Rattle.coding.proofs.RowLaws.{row-alone, row-and-low}
+use borrow.Author.Needs.{needs}
+use Rattle.coding.proofs.with_row.Statement.{statement}
+use Rattle.coding.proofs.with_row.Tie as tie
+
+add-result : tie.Need-add-result
+add-result c = search needs
+
+returns : tie.Need-returns
+returns c = search row-alone
+
+returns-2 : tie.Need-returns-2
+returns-2 c = search row-and-low
+
+pub with-row-spec : {M : Type 1} → statement M
+with-row-spec = tie.close (tie.spec add-result returns returns-2)

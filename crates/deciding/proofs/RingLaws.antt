@@ -1,0 +1,213 @@
+-- What the code decides by the mode's ring is what document 01 says of the point. Assumes nothing.
+use mathlib.Core.Path.{_≡_, refl, sym, ap, ap₂, _∙_}
+use mathlib.Core.Bool.{Bool, true, false, _&&_, not, cond}
+use mathlib.Core.List.{List}
+use Prim.Native.Nat.{ℕ, zero, suc, _+_, _*_, _%_, _<_, _≤_}
+use native.Mathlib.Omega.{arith}
+use native.Mathlib.Nat.{mul-pos}
+use native.Mathlib.Decide.{decLe, decLt}
+use borrow.Author.Tests.{le-leb, lt-leb, lt-ltb, le-ltb}
+use lib.Dec.{T, eqb, leb, ltb, eqb→eq}
+use lib.ListN.{getD}
+use lib.IntN.{ℤ, pos, negsuc, natAbs}
+use lib.Signed.{ltZ}
+use mir.Syntax.{w16}
+use mir.Val.{toZ, ofZ}
+use Rattle.deciding.specs.declared.Decision.{Decision}
+use Rattle.deciding.specs.declared.Decision.the-variants.{State, Origin}
+use Rattle.line.specs.Table.{below, every}
+use Rattle.line.specs.Mode.{byMode}
+use Rattle.line.specs.Point.{at, isOrigin}
+use Rattle.deciding.specs.Decide.{decide}
+use Rattle.deciding.specs.Sizes.{bitOf, belowOf, quadrantOf, sq, farOf, ringOf, ringIndex}
+use Rattle.line.proofs.ByMode.{mode-4}
+use Rattle.line.proofs.TableLaws.{below-at}
+use Rattle.deciding.proofs.Arcs.{arc, state1, ring3, state3, decided2, ring4, outerSize, state4, decidedArc}
+use Rattle.deciding.proofs.SizeLaws.{not-zero, arc-decide}
+use Rattle.deciding.proofs.Squares.{strict}
+
+-- A QUARTER IN THE RING
+
+-- the quadrants I to IV
+abbrev quad : ℕ → ℕ
+quad k = 12 * bitOf (eqb k 2) + 8 * bitOf (eqb k 3) + 4 * bitOf (eqb k 1)
+
+-- of an arc of k quarters: t says that `across` is far, u that `along` is; of an odd one `along` is im's size
+abbrev part : ℕ → Bool → Bool → ℕ
+part k t u = cond (eqb (k % 2) 0) (2 * bitOf u + bitOf t) (2 * bitOf t + bitOf u)
+
+abbrev inRing : ℕ → ℕ → ℕ → Bool → Bool → ℕ
+inRing m q k t u = getD (ringOf m) (quad q + part k t u) 0
+
+-- one computed test: all modes, all quarters, and both answers of both tests
+abbrev Alike : (ℕ → ℕ → Bool → Bool → ℕ) → (ℕ → ℕ → Bool → Bool → ℕ) → Bool → Bool → Type 0
+Alike f g t u = T (every (λ m. every (λ k. eqb (f m k t u) (g m k t u)) (below 4)) (below 5))
+
+each : (f g : ℕ → ℕ → Bool → Bool → ℕ) → Alike f g true true → Alike f g true false → Alike f g false true → Alike f g false false
+    → (m k : ℕ) → m < 5 → k < 4 → (t u : Bool) → f m k t u ≡ g m k t u
+each f g a b c d m k h l t u = go t u
+  where
+    at-once : (t u : Bool) → Alike f g t u → f m k t u ≡ g m k t u
+    at-once t u x =
+        eqb→eq _ _ (below-at (λ j. eqb (f m j t u) (g m j t u)) 4 (below-at (λ n. every (λ j. eqb (f n j t u) (g n j t u)) (below 4)) 5 x m h) k l)
+
+    go : (t u : Bool) → f m k t u ≡ g m k t u
+    go true true = at-once true true a
+    go true false = at-once true false b
+    go false true = at-once false true c
+    go false false = at-once false false d
+
+not-past : (a b : ℕ) → cond (leb b a) 0 1 ≡ bitOf (ltb a b)
+not-past a b = go (decLe b a)
+  where
+    go : Dec (b ≤ a) → cond (leb b a) 0 1 ≡ bitOf (ltb a b)
+    go (yes h) = rw (le-leb b a h, le-ltb a b h)
+    go (no h) = let l : a < b = omega (arith, h) in rw (lt-leb b a l, lt-ltb a b l)
+
+-- mode 2's arc is in a sector
+bySector : ℕ → Bool → Bool → ℕ
+bySector k t u = cond u (k * 2) (cond t ((k * 2 + 2) % 8) (k * 2 + 1))
+
+sector-state : (k a b : ℕ) → 0 < a → decided2 (arc k a b) ≡ State (bySector k (ltb (sq (a + b)) (2 * sq b)) (ltb (sq (b + a)) (2 * sq a)))
+unfolding decided2 bySector
+sector-state k a b p = rw (let e : b + a ≡ a + b = omega arith in e) (go (decLt (sq (a + b)) (2 * sq a)) (decLt (sq (a + b)) (2 * sq b)))
+  where
+    go : Dec (sq (a + b) < 2 * sq a) → Dec (sq (a + b) < 2 * sq b) → decided2 (arc k a b) ≡ State (bySector k (ltb (sq (a + b)) (2 * sq b)) (ltb (sq (a + b)) (2 * sq a)))
+    go (yes u) v = rw (lt-ltb (sq (a + b)) (2 * sq a) u)
+    go (no u) (yes v) = rw (le-ltb (sq (a + b)) (2 * sq a) (omega (arith, u)), lt-ltb (sq (a + b)) (2 * sq b) v)
+    go (no u) (no v) =
+        let i : 2 * sq a ≤ sq (a + b) = omega (arith, u) in
+        let j : 2 * sq b ≤ sq (a + b) = omega (arith, v) in
+        rw (le-ltb (sq (a + b)) (2 * sq a) i, le-ltb (sq (a + b)) (2 * sq b) j, lt-ltb (2 * sq a) (sq (a + b)) (strict (a + b) a (omega arith) i), lt-ltb (2 * sq b) (sq (a + b)) (strict (a + b) b (omega arith) j))
+
+-- THE ARCS IN THE RING
+
+-- off the axes
+arcState : ℕ → ℕ → Bool → Bool → ℕ
+arcState m k t u =
+    byMode m ((k + bitOf t) % 4 * 2) (bySector k t u) (getD ring3 ((k + bitOf t) % 4) 0) (getD ring4 (k * 4 + bitOf t * 2 + bitOf u) 0)
+
+in-ring : (m k : ℕ) → m < 5 → k < 4 → (t u : Bool) → arcState m k t u ≡ inRing m k k t u
+unfolding arcState ringOf bySector ring3 ring4
+in-ring m k h l t u = each arcState (λ n j a b. inRing n j j a b) tt tt tt tt m k h l t u
+
+-- on the axis before a quarter, which belongs to the quadrant before it: `across` is not far, and `along` is, in mode 4 by its level
+axisState : ℕ → ℕ → Bool → ℕ
+axisState m k u =
+    byMode m ((k + 0) % 4 * 2) (bySector k false true) (getD ring3 ((k + 0) % 4) 0) (getD ring4 ((k + 3) % 4 * 4 + bitOf u * 2) 0)
+
+axisFar : ℕ → Bool → Bool
+axisFar m u = byMode m true true true u
+
+on-ring : (m k : ℕ) → m < 5 → k < 4 → (u : Bool) → axisState m k u ≡ inRing m ((k + 3) % 4) k false (axisFar m u)
+unfolding axisState axisFar ringOf bySector ring3 ring4
+on-ring m k h l u = each (λ n j a b. axisState n j b) (λ n j a b. inRing n ((j + 3) % 4) j false (axisFar n b)) tt tt tt tt m k h l true u
+
+-- a number past 4 reads mode 4's column
+high : (n q k a b : ℕ) → let m : ℕ = suc (suc (suc (suc n))) in inRing 4 q k (leb 2048 b) (leb 2048 a) ≡ inRing m q k (farOf m a b) (farOf m b a)
+unfolding ringOf farOf
+high n q k a b =
+    let m : ℕ = suc (suc (suc (suc n))) in
+    let f : m ≡ 2 → ⊥ = λ e. omega arith in
+    let g : m ≡ 3 → ⊥ = λ e. omega arith in
+    let r : ringOf 4 ≡ ringOf m = sym (mode-4 _ _ _ _ m (omega arith) f g) in
+    let t : leb 2048 b ≡ farOf m a b = sym (mode-4 _ _ _ _ m (omega arith) f g) in
+    let u : leb 2048 a ≡ farOf m b a = sym (mode-4 _ _ _ _ m (omega arith) f g) in
+    ap (λ (x : List ℕ). getD x (quad q + part k (leb 2048 b) (leb 2048 a)) 0) r ∙ ap₂ (λ (x y : Bool). inRing m q k x y) t u
+
+arc-high : (n : ℕ) (k a b : ℕ) → let m : ℕ = suc (suc (suc (suc n))) in decidedArc m (arc k a b) ≡ State (state4 (arc k a b))
+unfolding decidedArc
+arc-high n k a b = mode-4 _ _ _ _ (suc (suc (suc (suc n)))) (omega arith) (λ e. omega arith) (λ e. omega arith)
+
+arc-in : (m k a b : ℕ) → k < 4 → decidedArc m (arc k (suc a) (suc b)) ≡ State (inRing m k k (farOf m (suc a) (suc b)) (farOf m (suc b) (suc a)))
+unfolding decidedArc farOf ringOf state1 state3 state4 outerSize arcState
+arc-in zero k a b l =
+    ap State (ap (λ (n : ℕ). (k + n) % 4 * 2) (not-past (suc a) (suc b)) ∙ in-ring 0 k (omega arith) l (ltb (suc a) (suc b)) (ltb (suc b) (suc a)))
+arc-in (suc zero) k a b l =
+    ap State (ap (λ (n : ℕ). (k + n) % 4 * 2) (not-past (suc a) (suc b)) ∙ in-ring 1 k (omega arith) l (ltb (suc a) (suc b)) (ltb (suc b) (suc a)))
+arc-in (suc (suc zero)) k a b l =
+    sector-state k (suc a) (suc b) (omega arith)
+    ∙ ap State (in-ring 2 k (omega arith) l (ltb (sq (suc a + suc b)) (2 * sq (suc b))) (ltb (sq (suc b + suc a)) (2 * sq (suc a))))
+arc-in (suc (suc (suc zero))) k a b l =
+    ap State (ap (λ (n : ℕ). getD ring3 ((k + n) % 4) 0) (not-past (2 * suc a) (suc b)) ∙ in-ring 3 k (omega arith) l (ltb (2 * suc a) (suc b)) (ltb (2 * suc b) (suc a)))
+arc-in (suc (suc (suc (suc n)))) k a b l =
+    arc-high n k (suc a) (suc b)
+    ∙ ap State (rw (not-zero b) (in-ring 4 k (omega arith) l (leb 2048 (suc b)) (leb 2048 (suc a))) ∙ high n k k (suc a) (suc b))
+
+arc-on : (m k a : ℕ) → k < 4 → decidedArc m (arc k (suc a) 0) ≡ State (inRing m ((k + 3) % 4) k (farOf m (suc a) 0) (farOf m 0 (suc a)))
+unfolding decidedArc farOf ringOf state1 state3 state4 outerSize axisState axisFar
+arc-on zero k a l =
+    rw (le-leb 0 (suc a) (omega arith), le-ltb (suc a) 0 (omega arith), lt-ltb 0 (suc a) (omega arith)) (ap State (on-ring 0 k (omega arith) l true))
+arc-on (suc zero) k a l =
+    rw (le-leb 0 (suc a) (omega arith), le-ltb (suc a) 0 (omega arith), lt-ltb 0 (suc a) (omega arith)) (ap State (on-ring 1 k (omega arith) l true))
+arc-on (suc (suc zero)) k a l =
+    let p : 0 < suc a * suc a = mul-pos (omega arith) (omega arith) in
+    sector-state k (suc a) 0 (omega arith)
+    ∙ ap₂ (λ (t u : Bool). State (bySector k t u)) (le-ltb (sq (suc a + 0)) (2 * sq 0) (omega arith)) (lt-ltb (sq (0 + suc a)) (2 * sq (suc a)) (omega arith))
+    ∙ ap State (on-ring 2 k (omega arith) l true)
+    ∙ ap₂ (λ (t u : Bool). State (inRing 2 ((k + 3) % 4) k t u)) (sym (le-ltb (sq (suc a + 0)) (2 * sq 0) (omega arith))) (sym (lt-ltb (sq (0 + suc a)) (2 * sq (suc a)) (omega arith)))
+arc-on (suc (suc (suc zero))) k a l =
+    rw (le-leb 0 (2 * suc a) (omega arith), le-ltb (2 * suc a) 0 (omega arith), lt-ltb 0 (suc a) (omega arith)) (ap State (on-ring 3 k (omega arith) l true))
+arc-on (suc (suc (suc (suc n)))) k a l =
+    arc-high n k (suc a) 0 ∙ ap State (on-ring 4 k (omega arith) l (leb 2048 (suc a)) ∙ high n ((k + 3) % 4) k (suc a) 0)
+
+-- A POINT IN THE RING
+
+below-negative : (n : ℕ) (t : Bool) → belowOf (negsuc n) t ≡ true
+unfolding belowOf
+below-negative n t = refl
+
+below-zero : (t : Bool) → belowOf (pos 0) t ≡ t
+unfolding belowOf
+below-zero true = refl
+below-zero false = refl
+
+below-positive : (n : ℕ) (t : Bool) → belowOf (pos (suc n)) t ≡ false
+unfolding belowOf
+below-positive n true = le-ltb (suc n) 1 (omega arith)
+below-positive n false = le-ltb (suc n) 0 (omega arith)
+
+-- the state of a point in the quadrant q, from that of turns of one with re > 0 and im ≥ 0
+from-arc : (m q x y : ℕ) (re im : ℤ) (d : Decision) → quadrantOf re im ≡ q → natAbs re ≡ x → natAbs im ≡ y → d ≡ State (getD (ringOf m) (q + (2 * bitOf (farOf m y x) + bitOf (farOf m x y))) 0) → State (getD (ringOf m) (ringIndex m re im) 0) ≡ d
+unfolding ringIndex
+from-arc m q x y re im d eq ex ey e = rw (eq, ex, ey) (sym e)
+
+pub by-ring : (m : ℕ) (re im : ℤ) → isOrigin (at re im) ≡ false → State (getD (ringOf m) (ringIndex m re im) 0) ≡ decide m (at re im)
+unfolding isOrigin quadrantOf
+by-ring m (pos zero) (pos zero) e = let z : _≡_ {A = Bool} true false = e in cc
+by-ring m (pos (suc x)) (pos zero) e = from-arc m 8 (suc x) 0 _ _ _ (simp (below-positive, below-zero)) refl refl (arc-decide m 0 x 0 (omega arith) ∙ arc-on m 0 x (omega arith))
+by-ring m (pos (suc x)) (pos (suc y)) e = from-arc m 0 (suc x) (suc y) _ _ _ (simp below-positive) refl refl (arc-decide m 0 x (suc y) (omega arith) ∙ arc-in m 0 x y (omega arith))
+by-ring m (pos zero) (pos (suc y)) e = from-arc m 0 0 (suc y) _ _ _ (simp (below-positive, below-zero)) refl refl (arc-decide m 1 y 0 (omega arith) ∙ arc-on m 1 y (omega arith))
+by-ring m (negsuc x) (pos (suc y)) e = from-arc m 4 (suc x) (suc y) _ _ _ (simp (below-positive, below-negative)) refl refl (arc-decide m 1 y (suc x) (omega arith) ∙ arc-in m 1 y x (omega arith))
+by-ring m (negsuc x) (pos zero) e = from-arc m 4 (suc x) 0 _ _ _ (simp (below-zero, below-negative)) refl refl (arc-decide m 2 x 0 (omega arith) ∙ arc-on m 2 x (omega arith))
+by-ring m (negsuc x) (negsuc y) e = from-arc m 12 (suc x) (suc y) _ _ _ (simp below-negative) refl refl (arc-decide m 2 x (suc y) (omega arith) ∙ arc-in m 2 x y (omega arith))
+by-ring m (pos zero) (negsuc y) e = from-arc m 12 0 (suc y) _ _ _ (simp (below-zero, below-negative)) refl refl (arc-decide m 3 y 0 (omega arith) ∙ arc-on m 3 y (omega arith))
+by-ring m (pos (suc x)) (negsuc y) e = from-arc m 8 (suc x) (suc y) _ _ _ (simp (below-positive, below-negative)) refl refl (arc-decide m 3 y (suc x) (omega arith) ∙ arc-in m 3 y x (omega arith))
+
+pub looked-up : (m : ℕ) (re im : ℤ) (ring : List ℕ) (n : ℕ) → ring ≡ ringOf m → n ≡ getD ring (ringIndex m re im) 0 → isOrigin (at re im) ≡ false → State n ≡ decide m (at re im)
+looked-up m re im ring n e q o = ap State (q ∙ ap (λ (l : List ℕ). getD l (ringIndex m re im) 0) e) ∙ by-ring m re im o
+
+pub origin-none : (m : ℕ) (re im : ℤ) → isOrigin (at re im) ≡ true → Origin ≡ decide m (at re im)
+unfolding decide
+origin-none m re im e = rw e
+
+-- WHAT THE FUNCTIONS COMPUTE
+
+pub origin-law : (re im : ℤ) (x y : ℕ) → x ≡ natAbs re → y ≡ natAbs im → eqb x 0 && eqb y 0 ≡ isOrigin (at re im)
+unfolding isOrigin
+origin-law re im x y ex ey = ap₂ (λ (i j : ℕ). eqb i 0 && eqb j 0) ex ey
+
+-- the number that `one_if` gave, as an i16 comes back
+pub below-law : (x n : ℤ) (t : Bool) → n ≡ pos (bitOf t) → ltZ x (toZ w16 (ofZ w16 n)) ≡ belowOf x t
+unfolding belowOf
+below-law x n true e = rw e
+below-law x n false e = rw e
+
+pub index-law : (m : ℕ) (re im : ℤ) (x y d l u v : ℕ) (right below-im below-re down far-x far-y : Bool) → x ≡ natAbs re → y ≡ natAbs im
+    → right ≡ belowOf re true → down ≡ belowOf im (not right) → d ≡ bitOf down
+    → below-im ≡ belowOf im false → below-re ≡ belowOf re below-im → l ≡ bitOf below-re
+    → far-x ≡ farOf m y x → u ≡ bitOf far-x → far-y ≡ farOf m x y → v ≡ bitOf far-y
+    → 8 * d + 4 * l + (2 * u + v) ≡ ringIndex m re im
+unfolding ringIndex quadrantOf
+index-law m re im x y d l u v right below-im below-re down far-x far-y ex ey e1 e2 e3 e4 e5 e6 e7 e8 e9 e10 =
+    rw (e3, e2, e1, e6, e5, e4, e8, e7, e10, e9, ex, ey)
