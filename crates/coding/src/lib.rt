@@ -95,6 +95,24 @@ fn row16(y: usize, z: u8) -> usize
     row_if(t[4 + y] == z, 1) + row_if(t[8 + y] == z, 2) + row_if(t[12 + y] == z, 3)
 }
 
+// The group of line bits that leads from a reference to a state.
+pub fn group_of(mode: u8, reference: u8, s: u8) -> u8
+    ensures { λ r. ⌜ r ≡ group mode (face mode reference) s ⌝ }
+{
+    let turn = (s % 8 + 8 - reference % 8) % 8;
+    if mode <= 1 {
+        return row4(turn / 2) as u8;
+    }
+    if mode == 2 {
+        return row8(turn) as u8;
+    }
+    let row = row16((reference / 4 % 4) as usize, s / 4 % 4) as u8;
+    if mode == 3 {
+        return row;
+    }
+    4 * row + s % 4
+}
+
 // The index of the row that leads from a reference to a state: the turns of 45° between them, or both quadrants.
 fn row_index(mode: u8, reference: u8, s: u8) -> usize
     ensures { λ r. ⌜ r ≡ rowIndex mode reference s ⌝ }
@@ -127,13 +145,6 @@ fn with_row(mode: u8, row: u8, s: u8) -> u8
     ensures { λ r. ⌜ r ≡ withRow mode row s ⌝ }
 {
     if mode <= 3 { row } else { row % 16 + s % 4 }
-}
-
-// The group of line bits that leads from a reference to a state.
-pub fn group_of(mode: u8, reference: u8, s: u8) -> u8
-    ensures { λ r. ⌜ r ≡ group mode (face mode reference) s ⌝ }
-{
-    with_row(mode, row_at(mode, row_index(mode, reference, s)), s)
 }
 
 // All rows of a mode, found once for a caller that looks up many.

@@ -2,7 +2,7 @@
 use Prim.Native.Nat.{ℕ, zero, suc, _+_, _*_, _-_, _^_, _/_, _%_, _<_, _≤_, min}
 use mathlib.Core.Path.{_≡_, refl, sym, _∙_, ap, ap₂, subst, subst⁻¹}
 use mathlib.Core.List.{List, [], _∷_, _++_, map}
-use native.Mathlib.Nat.{mod-le, mod-lt, mod-eq-of-lt, mul-assoc, mul-add-mod-self-right}
+use native.Mathlib.Nat.{mod-le, mod-lt, mod-eq-of-lt, mul-assoc, mul-add-mod-self-right, sub-zero}
 use native.Mathlib.Omega.{arith}
 use borrow.Author.Tests.{le-leb, lt-leb}
 use lib.Dec.{T, leb, ltb, ltb→lt, lt→ltb}
@@ -224,12 +224,16 @@ descrambled-small m role h g =
     let r = width-range m .1 in
     (omega arith, omega arith)
 
+-- the mixed bits are no more than w
+pub all-small : (m role n g w all : ℕ) → w ≡ width m → all ≡ mixedAtOnce m role n g → all < 2 ^ w
+all-small m role n g w all ew ea = subst⁻¹ (λ (k : ℕ). all < 2 ^ k) ew (subst⁻¹ (λ (x : ℕ). x < 2 ^ width m) ea (mixed-small m role n g))
+
 -- a group after a full register
 pub full-law : (m role g : ℕ) (h : Register) (w full low size next plain : ℕ) → w ≡ width m → full ≡ regLen m → full ≤ h .held .0 → low ≡ g % 2 ^ width m
     → size ≡ 2 ^ w → next ≡ (h .bits * size + low) % 2 ^ regLen m → plain ≡ mixedAtOnce m role (h .bits) g
     → _≡_ {A = Descrambled} (record { plain = plain; unsettled = record { 0 = 0 }; next = register next full }) (descrambled m role h g)
 full-law m role g h w full low size next plain ew ef l el es en ep =
-    let small : plain < 2 ^ (w - 0) = subst⁻¹ (λ (k : ℕ). k < 2 ^ (w - 0)) ep (subst⁻¹ (λ (k : ℕ). mixedAtOnce m role (h .bits) g < 2 ^ k) (let e : w - 0 ≡ width m = omega arith in e) (mixed-small m role (h .bits) g)) in
+    let small : plain < 2 ^ (w - 0) = subst⁻¹ (λ (k : ℕ). plain < 2 ^ k) (sub-zero w) (all-small m role (h .bits) g w plain ew ep) in
     let u : 0 ≡ min (full - h .held .0) w = omega arith in
     let k : full ≡ min (h .held .0 + w) full = omega arith in
     descramble-law m role h g w full 0 plain plain (register next full) ew ef u ep (sym (mod-eq-of-lt small)) (push-law m h g w full low size next full ew ef el es en k)

@@ -199,29 +199,27 @@ pub fn descramble_group(mode: u8, role: u8, h: Register, line: u8) -> Descramble
 }
 
 // The same for a point of many: a full register, as nearly all points find it, needs no count. It has one caller, the loop over a
-// block's points, so that it is put in line there. The fields of `d` are copied: a struct that a call gives stays in memory where it
-// is handed on whole.
+// block's points, and `descramble_group` another, so that each is put in line there.
 pub fn descramble_next(mode: u8, role: u8, h: Register, line: u8) -> Descrambled
     ensures { λ r. ⌜ r ≡ descrambled mode role h line ⌝ }
 {
     let n = h.bits;
     let held = h.held.0;
+    let w = line::width_of(mode);
     let full = line::length_of(mode);
+    let all = mixed(mode, role, n, line);
     if held < full {
-        let d = descramble_group(mode, role, h, line);
-        let plain = d.plain;
-        let unsettled = d.unsettled;
-        let next = d.next;
+        let u = unsettled_bits(w, full, held);
         return Descrambled {
-            plain,
-            unsettled,
-            next,
+            plain: without_first(w, u, all),
+            unsettled: BitCount(u),
+            next: push_group(mode, h, line),
         };
     }
     let low = low_bits(mode, line as u32) as u64;
-    let bits = keep_bits(mode, (n as u64) * group_size(line::width_of(mode)) + low);
+    let bits = keep_bits(mode, (n as u64) * group_size(w) + low);
     Descrambled {
-        plain: mixed(mode, role, n, line),
+        plain: all,
         unsettled: BitCount(0),
         next: Register {
             bits,

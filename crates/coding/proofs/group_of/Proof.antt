@@ -1,22 +1,74 @@
-use mathlib.Core.Path.{ap, _∙_}
-use Prim.Native.Nat.{ℕ}
-use Rattle.coding.specs.Rows.{rowAt, withRow}
-use Rattle.coding.proofs.RowLaws.{group-by-row}
+use Rattle.coding.proofs.CodeLaws.{group-1, group-2, group-3, group-4}
 use borrow.Author.Needs.{needs}
 use Rattle.coding.proofs.group_of.Statement.{statement}
 use Rattle.coding.proofs.group_of.Tie as tie
+use Rattle.coding.proofs.group_of.Reads as reads
+use Rattle.coding.proofs.group_of.Lts as lts
+use Rattle.coding.proofs.row16.Reads as row16-reads
+use Rattle.coding.proofs.row4.Reads as row4-reads
+use Rattle.coding.proofs.row8.Reads as row8-reads
 
-row-index-requires : tie.Need-row-index-requires
-row-index-requires c κs = search needs
+add-turn : tie.Need-add-turn
+add-turn c = search needs
 
-row-at-requires : tie.Need-row-at-requires
-row-at-requires c κs = search needs
+sub-turn : tie.Need-sub-turn
+sub-turn c = search needs
 
-with-row-requires : tie.Need-with-row-requires
-with-row-requires c κs = search needs
+row4-requires : tie.Need-row4-requires
+row4-requires c κs = search needs
+
+cast-result : tie.Need-cast-result
+cast-result c = search needs
 
 returns : tie.Need-returns
-returns c = let a = c .before .before .before .args in c .with-row .ensures ∙ ap (λ (k : ℕ). withRow (a .mode) k (a .s)) (c .before .row-at .ensures ∙ ap (rowAt (a .mode)) (c .before .before .row-index .ensures .0)) ∙ group-by-row (a .reference) (a .s) (a .mode)
+returns c = search group-1
+
+row8-requires : tie.Need-row8-requires
+row8-requires c κs = search needs
+
+cast-result-2 : tie.Need-cast-result-2
+cast-result-2 c = search needs
+
+returns-2 : tie.Need-returns-2
+returns-2 c = search group-2
+
+cast-row16 : tie.Need-cast-row16
+cast-row16 c = search needs
+
+row16-requires : tie.Need-row16-requires
+row16-requires c κs = search needs
+
+cast-row : tie.Need-cast-row
+cast-row c = search needs
+
+returns-3 : tie.Need-returns-3
+returns-3 c = search group-3
+
+mul-result : tie.Need-mul-result
+mul-result c = search needs
+
+add-result : tie.Need-add-result
+add-result c = search needs
+
+returns-4 : tie.Need-returns-4
+returns-4 c = search group-4
 
 pub group-of-spec : {M : Type 1} → statement M
-group-of-spec = tie.close (tie.spec row-index-requires row-at-requires with-row-requires returns)
+group-of-spec =
+    tie.close
+    (tie.spec
+    add-turn
+    sub-turn
+    row4-requires
+    cast-result
+    returns
+    row8-requires
+    cast-result-2
+    returns-2
+    cast-row16
+    row16-requires
+    cast-row
+    returns-3
+    mul-result
+    add-result
+    returns-4)

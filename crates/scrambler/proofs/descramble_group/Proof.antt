@@ -1,8 +1,5 @@
-use Rattle.line.specs.Mode.{width}
-use Prim.Native.Nat.{ℕ, _^_, _<_}
-use mathlib.Core.Path.{sym, subst}
-use Rattle.scrambler.proofs.GroupLaws.{descramble-law, mixed-small}
-use Rattle.line.proofs.ByMode.{width-range, length-range}
+use Rattle.scrambler.proofs.GroupLaws.{all-small, descramble-law}
+use Rattle.line.proofs.ByMode.{width-range}
 use native.Mathlib.Omega.{arith}
 use borrow.Author.Needs.{needs}
 use Rattle.scrambler.proofs.descramble_group.Statement.{statement}
@@ -34,7 +31,9 @@ mixed-requires c κs = search needs
 
 -- src/lib.rt:183:16
 without-first-requires : tie.Need-without-first-requires
-without-first-requires c κs = (omega arith, omega (arith, width-range (c .before .before .before .before .args .mode)), subst (λ (k : ℕ). c .mixed .result < 2 ^ k) (sym (c .before .before .before .width-of .ensures)) (subst (λ (x : ℕ). x < 2 ^ width (c .before .before .before .before .args .mode)) (sym (c .mixed .ensures .0)) (mixed-small (c .before .before .before .before .args .mode) (c .before .before .before .before .args .role) (c .before .before .before .before .args .h .bits) (c .before .before .before .before .args .line))))
+without-first-requires c κs =
+    let a = c .before .before .before .before .args in
+    (omega arith, omega (arith, width-range (a .mode)), all-small (a .mode) (a .role) (a .h .bits) (a .line) _ _ (c .before .before .before .width-of .ensures) (c .mixed .ensures .0))
 
 -- src/lib.rt:185:15
 push-group-requires : tie.Need-push-group-requires
