@@ -42,13 +42,6 @@ fn random_call(rng: &mut Rng) -> Call {
     }
 }
 
-fn flat(points: &[Point]) -> Vec<i16> {
-    points
-        .iter()
-        .flat_map(|point| [point.re, point.im])
-        .collect()
-}
-
 /// Runs a call on both sides; gives its number and the store after it.
 fn run(tally: &mut Tally, before: &[u8], call: &Call) -> (u8, Vec<u8>) {
     let (mut bytes, mut right_bytes) = (before.to_vec(), before.to_vec());
@@ -66,7 +59,7 @@ fn run(tally: &mut Tally, before: &[u8], call: &Call) -> (u8, Vec<u8>) {
             store::append_lost(&mut right_bytes, *n),
         ),
         Call::Points(points) => (
-            ours::append_points(&mut bytes, &flat(points)),
+            ours::append_points(&mut bytes, &points::flat(points)),
             store::append_points(&mut right_bytes, points),
         ),
     };
