@@ -3,7 +3,6 @@
 //! point before; origin points and unsettled bits are put in afterwards.
 
 use super::symbol::{self, ORIGIN};
-use crate::mode::MODES;
 use crate::receiver::{self, Receiver, GAP_BYTE, REFERENCE_BYTE};
 use crate::refusal::{need, Refusal};
 use crate::units::{BitCount, UnitIntervals};
@@ -82,8 +81,8 @@ struct Passes<const MODE: u8, const NEAR: usize> {
 }
 
 impl<const MODE: u8, const NEAR: usize> Passes<MODE, NEAR> {
-    const W: usize = MODES[MODE as usize - 1].width as usize;
-    const R: usize = MODES[MODE as usize - 1].register_length as usize;
+    const W: usize = symbol::mode(MODE).width as usize;
+    const R: usize = symbol::mode(MODE).register_length as usize;
     const ALL: u8 = (1 << Self::W) - 1;
 
     fn of(state: &Receiver) -> Self {

@@ -4,7 +4,13 @@
 //! in mode 2 by 45°; in mode 4 its bits 2 and 3 are Q4 and Q3. Nothing here
 //! branches on a point, so that a loop over points takes several at once.
 
-use crate::mode::{A, B, C, D};
+use crate::mode::{Mode, A, B, C, D, MODES};
+use crate::point::{Point, V27TER_POINTS, V32_POINTS};
+
+/// The parameters of a mode.
+pub const fn mode(number: u8) -> &'static Mode {
+    &MODES[number as usize - 1]
+}
 
 /// The bit that marks a point at the origin, which has no symbol.
 pub const ORIGIN: u8 = 0x80;
@@ -69,7 +75,7 @@ fn level(coordinate: i16) -> u16 {
 /// The line bits of a symbol after another. Both differential codes count the
 /// turns between them in Gray code; all but mode 1's invert the last bit.
 #[inline(always)]
-pub fn group<const MODE: u8>(before: u8, symbol: u8) -> u8 {
+pub const fn group<const MODE: u8>(before: u8, symbol: u8) -> u8 {
     let turns = symbol.wrapping_sub(before) & if MODE == 2 { 7 } else { 3 };
     let gray = turns ^ (turns >> 1);
     match MODE {
@@ -80,12 +86,22 @@ pub fn group<const MODE: u8>(before: u8, symbol: u8) -> u8 {
 }
 
 /// The state that a symbol stands for.
-pub fn state<const MODE: u8>(symbol: u8) -> u8 {
+pub const fn state<const MODE: u8>(symbol: u8) -> u8 {
     match MODE {
         1 => 2 * symbol,
         2 => symbol,
-        3 => [C, D, A, B][usize::from(symbol % 4)],
-        _ => QUADRANTS[usize::from(symbol % 4)] + (symbol >> 2 & 3),
+        3 => [C, D, A, B][(symbol % 4) as usize],
+        _ => QUADRANTS[(symbol % 4) as usize] + (symbol >> 2 & 3),
+    }
+}
+
+/// The point at which a symbol is sent.
+pub const fn sent<const MODE: u8>(symbol: u8) -> Point {
+    let state = state::<MODE>(symbol) as usize;
+    if MODE <= 2 {
+        V27TER_POINTS[state % 8]
+    } else {
+        V32_POINTS[state]
     }
 }
 
