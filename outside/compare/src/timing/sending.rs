@@ -6,6 +6,7 @@ use outside::refusal::Refusal;
 use outside::rng::Rng;
 use outside::sender::{self, Sender};
 use outside::training::Training;
+use outside::tuned;
 
 use super::measure::{Side, Work};
 use super::{call_row, Signal};
@@ -110,7 +111,7 @@ impl Data {
         Work {
             proved: self.proved_side(),
             plain: Some(self.side(sender::send)),
-            tuned: None,
+            tuned: Some(self.side(tuned::send)),
         }
     }
 }

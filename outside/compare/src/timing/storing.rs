@@ -5,6 +5,7 @@ use std::hint::black_box;
 use outside::listing;
 use outside::point::Point;
 use outside::store::{self, FEWEST_RECORDS, RECORD, RECORD_POINTS};
+use outside::tuned;
 
 use super::measure::{Side, Work};
 use super::{call_row, input, Signal};
@@ -59,12 +60,14 @@ impl Filled {
 
     pub fn single_append(&self) -> Work<'_> {
         let plain = |store: &mut [u8], re, im| store::append_point(store, re, im).expect("room");
+        let tuned =
+            |store: &mut [u8], re, im| tuned::append_points(store, &[re, im]).expect("room");
         Work {
             proved: self.single_side(|store, re, im| {
                 black_box(ours::append_point(store, re, im));
             }),
             plain: Some(self.single_side(plain)),
-            tuned: None,
+            tuned: Some(self.single_side(tuned)),
         }
     }
 
@@ -88,7 +91,10 @@ impl Filled {
                 store::make(store, mode, role).expect("made");
                 store::append_points(store, &self.points).expect("room");
             })),
-            tuned: None,
+            tuned: Some(self.bulk_side(move |store| {
+                store::make(store, mode, role).expect("made");
+                tuned::append_points(store, &self.numbers).expect("room");
+            })),
         }
     }
 
@@ -111,6 +117,7 @@ impl Filled {
 
     pub fn listing(&self) -> Work<'_> {
         let mut text = vec![0; ours::LISTING_BYTES];
+        let mut tuned_text = vec![0; tuned::LISTING_ROOM];
         Work {
             proved: Box::new(move |kept| {
                 let mut count = [0];
@@ -120,7 +127,10 @@ impl Filled {
             plain: Some(Box::new(|kept| {
                 keep(kept, &black_box(listing::list(&self.store)));
             })),
-            tuned: None,
+            tuned: Some(Box::new(move |kept| {
+                let length = black_box(tuned::list(&self.store, &mut tuned_text));
+                keep(kept, &tuned_text[..length.expect("room")]);
+            })),
         }
     }
 }
