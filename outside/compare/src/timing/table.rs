@@ -33,7 +33,7 @@ impl Table {
             Calls => "Calls",
             Blocks => "How time grows: receive_points, noisy sent points, role 0",
             Stores => "How time grows: stores of mode 4, filled with points",
-            Smallest => "The smallest calls",
+            Smallest => "The smallest calls: what a call takes however little it does",
         }
     }
 
@@ -171,6 +171,7 @@ pub fn print(word: &str) {
         eprintln!("run {number} of {RUNS}");
         runs.push(run(word));
     }
+    assert!(!runs[0].is_empty(), "no row's name contains {word:?}");
     println!("Each figure is the least and the greatest of {RUNS} runs.");
     for table in Table::ALL {
         table.print(&runs);
