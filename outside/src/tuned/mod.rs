@@ -3,6 +3,7 @@
 
 mod append;
 mod chain;
+mod few;
 mod list;
 mod receive;
 mod send;

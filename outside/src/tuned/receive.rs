@@ -2,6 +2,7 @@
 //! bits, data bits. The descrambler has no feedback, so no pass waits for the
 //! point before; origin points and unsettled bits are put in afterwards.
 
+use super::few;
 use super::symbol::{self, ORIGIN};
 use crate::receiver::{self, Receiver, GAP_BYTE, REFERENCE_BYTE};
 use crate::refusal::{need, Refusal};
@@ -9,6 +10,8 @@ use crate::units::{BitCount, UnitIntervals};
 
 /// The points that a pass goes over.
 const STRETCH: usize = 128;
+/// Fewer points than this are received one after the other.
+const FEW: usize = 16;
 /// The groups of line bits kept from before: they hold 23 line bits.
 const BACK: usize = 12;
 
@@ -48,12 +51,15 @@ pub(super) fn in_range(points: &[i16]) -> bool {
 }
 
 /// Takes points that are not refused, a stretch at a time.
-fn receive<const MODE: u8, const NEAR: usize>(
+fn receive<const MODE: u8, const NEAR: u32>(
     state: Receiver,
     points: &[i16],
     line: &mut [u8],
     plain: &mut [u8],
 ) -> Receiver {
+    if line.len() < FEW {
+        return few::receive::<MODE, NEAR>(state, points, line, plain);
+    }
     let mut passes = Passes::<MODE, NEAR>::of(&state);
     let bytes = line.chunks_mut(STRETCH).zip(plain.chunks_mut(STRETCH));
     for (points, (line, plain)) in points.chunks(2 * STRETCH).zip(bytes) {
@@ -70,7 +76,7 @@ fn receive<const MODE: u8, const NEAR: usize>(
 }
 
 /// The state between stretches, and what the passes hand on.
-struct Passes<const MODE: u8, const NEAR: usize> {
+struct Passes<const MODE: u8, const NEAR: u32> {
     /// The reference's symbol, then those of the stretch.
     symbols: [u8; 1 + STRETCH],
     /// The last groups before the stretch, then those of the stretch.
@@ -80,7 +86,7 @@ struct Passes<const MODE: u8, const NEAR: usize> {
     held: usize,
 }
 
-impl<const MODE: u8, const NEAR: usize> Passes<MODE, NEAR> {
+impl<const MODE: u8, const NEAR: u32> Passes<MODE, NEAR> {
     const W: usize = symbol::mode(MODE).width as usize;
     const R: usize = symbol::mode(MODE).register_length as usize;
     const ALL: u8 = (1 << Self::W) - 1;
@@ -120,14 +126,14 @@ impl<const MODE: u8, const NEAR: usize> Passes<MODE, NEAR> {
     fn descramble(&self, plain: &mut [u8]) {
         let count = plain.len();
         let back = |groups: usize| &self.groups[BACK - groups..BACK - groups + count];
-        let near = back(NEAR / Self::W)
+        let near = back(NEAR as usize / Self::W)
             .iter()
-            .zip(back(NEAR.div_ceil(Self::W)));
+            .zip(back((NEAR as usize).div_ceil(Self::W)));
         let far = back(Self::R / Self::W)
             .iter()
             .zip(back(Self::R.div_ceil(Self::W)));
         for (((plain, line), near), far) in plain.iter_mut().zip(back(0)).zip(near).zip(far) {
-            let near = Self::tapped(near, NEAR);
+            let near = Self::tapped(near, NEAR as usize);
             let far = Self::tapped(far, Self::R);
             *plain = (line ^ near ^ far) & Self::ALL;
         }

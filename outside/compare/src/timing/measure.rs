@@ -15,7 +15,7 @@ pub struct Work<'a> {
 }
 
 /// Turns of each side after the first, which warms up: odd numbers.
-const TURNS: usize = 15;
+const TURNS: usize = 51;
 const LONG_TURNS: usize = 5;
 /// A turn lasts this long at least: short work is done several times.
 const SHORTEST_TURN: f64 = 200_000.0;

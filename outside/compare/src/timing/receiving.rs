@@ -12,7 +12,7 @@ use super::{call_row, input, Signal};
 use crate::layout::{self, ANSWER, STATE};
 use crate::{ours, points};
 
-const POINTS: usize = 200_000;
+const POINTS: usize = 40_000;
 /// The points of one call of bulk receive.
 const BLOCK: usize = 4_000;
 /// Single points between gaps, where there are any.
