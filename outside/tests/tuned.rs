@@ -1,4 +1,4 @@
-//! The tuned calls give what the plain ones give.
+//! The tuned block receiver gives what the plain one gives.
 
 use outside::mode::{Mode, MODES};
 use outside::point;

@@ -45,10 +45,13 @@ pub fn lost_of(record: &[u8; RECORD]) -> u32 {
     u32_at(record, BODY_AT)
 }
 
-/// Goes through the records of a chain in order, until one is refused. Number
-/// 13: an index of N or more, or met twice.
+/// Visits the records of a chain in order, until a visit refuses. Number 13: an
+/// index of N or more, or met twice.
 #[inline(always)]
-pub fn walk(store: &[u8], mut visit: impl FnMut(usize, &[u8; RECORD])) -> Result<(), Refusal> {
+pub fn walk(
+    store: &[u8],
+    mut visit: impl FnMut(usize, &[u8; RECORD]) -> Result<(), Refusal>,
+) -> Result<(), Refusal> {
     let (records, _) = store.as_chunks::<RECORD>();
     // N − 1 indexes at most are in use: a further one was met before.
     let mut left = records.len() - 1;
@@ -57,7 +60,7 @@ pub fn walk(store: &[u8], mut visit: impl FnMut(usize, &[u8; RECORD])) -> Result
         need(index < records.len(), Refusal::INDEX)?;
         for record in &records[index..] {
             left = left.checked_sub(1).ok_or(Refusal::INDEX)?;
-            visit(index, record);
+            visit(index, record)?;
             index += 1;
             let next = usize::from(u16_at(record, 0));
             if next != index {
@@ -130,7 +133,10 @@ pub fn check(store: &[u8]) -> Result<Chain, Refusal> {
         sum: 0,
         wrong: 0,
     };
-    walk(store, |index, record| pass.visit(index, record))?;
+    walk(store, |index, record| {
+        pass.visit(index, record);
+        Ok(())
+    })?;
     need(pass.wrong == 0, Refusal::RECORD)?;
     need(pass.sum == u64::from(pass.chain.total), Refusal::TOTAL)?;
     Ok(pass.chain)

@@ -40,22 +40,18 @@ fn list_track(store: &[u8], chain: &Chain, text: &mut Text) -> Result<(), Refusa
         line: vec![0; chain.events],
         plain: vec![0; chain.events],
     };
-    let mut refused = Ok(());
     chain::walk(store, |_, record| {
         if record[KIND_AT] == KIND_LOST {
-            let listed = points.list(text, texts);
-            refused = refused
-                .and(listed)
-                .and(points.lose(text, chain::lost_of(record)));
-        } else {
-            let end = BODY_AT + 4 * usize::from(record[COUNT_AT]);
-            let (numbers, _) = record[BODY_AT..end].as_chunks();
-            points
-                .numbers
-                .extend(numbers.iter().map(|bytes| i16::from_le_bytes(*bytes)));
+            points.list(text, texts)?;
+            return points.lose(text, chain::lost_of(record));
         }
+        let end = BODY_AT + 4 * usize::from(record[COUNT_AT]);
+        let (numbers, _) = record[BODY_AT..end].as_chunks();
+        let numbers = numbers.iter().map(|bytes| i16::from_le_bytes(*bytes));
+        points.numbers.extend(numbers);
+        Ok(())
     })?;
-    refused.and(points.list(text, texts))
+    points.list(text, texts)
 }
 
 /// Points that are not listed yet, and the receiver before them.

@@ -39,12 +39,6 @@ impl Table {
 
     /// The heads of the columns: those that name a row, and those of figures.
     fn heads(self) -> (&'static [&'static str], &'static [&'static str]) {
-        const CALL_AND_RECORD: &[&str] = &[
-            "proved, ns a call",
-            "proved, ns a record",
-            "tuned, ns a call",
-            "tuned, ns a record",
-        ];
         match self {
             Calls => (
                 &["call", "mode", "role"],
@@ -65,7 +59,15 @@ impl Table {
                     "tuned, ns a point",
                 ],
             ),
-            Stores => (&["call", "records"], CALL_AND_RECORD),
+            Stores => (
+                &["call", "records"],
+                &[
+                    "proved, ns a call",
+                    "proved, ns a record",
+                    "tuned, ns a call",
+                    "tuned, ns a record",
+                ],
+            ),
             Smallest => (
                 &["call", "mode"],
                 &["proved, ns a call", "plain, ns a call", "tuned, ns a call"],
