@@ -16,4 +16,5 @@ pub mod scrambler;
 pub mod sender;
 pub mod store;
 pub mod training;
+pub mod tuned;
 pub mod units;

@@ -70,7 +70,7 @@ pub fn receive_gap(state: Receiver, n: u32) -> Result<(Answer, Receiver), Refusa
 }
 
 /// Numbers 1, 2 and 4 of a handed-in receiver.
-fn checked(state: &Receiver) -> Result<(&'static Mode, Scrambler), Refusal> {
+pub(crate) fn checked(state: &Receiver) -> Result<(&'static Mode, Scrambler), Refusal> {
     let (mode, scrambler) = Mode::find_with_role(state.mode, state.role)?;
     let reference_fits = match state.reference {
         Some(reference) => mode.has_state(reference),
@@ -144,7 +144,7 @@ pub fn receive_points(
 ) -> Result<Receiver, Refusal> {
     let (mode, scrambler) = checked(&state)?;
     let count = points.len() / 2;
-    let lent = points.len() % 2 == 0 && line.len() >= count && plain.len() >= count;
+    let lent = points.len().is_multiple_of(2) && line.len() >= count && plain.len() >= count;
     need(lent, Refusal::LENT_NUMBERS)?;
     let in_range = |x: &i16| (-16384..=16384).contains(x);
     need(points.iter().all(in_range), Refusal::COORDINATE)?;

@@ -104,7 +104,7 @@ pub fn send(
 }
 
 /// Numbers 1, 2 and 4 of a handed-in sender.
-fn checked(state: &Sender) -> Result<(&'static Mode, Scrambler), Refusal> {
+pub(crate) fn checked(state: &Sender) -> Result<(&'static Mode, Scrambler), Refusal> {
     let (mode, scrambler) = Mode::find_with_role(state.mode, state.role)?;
     let fits = mode.has_state(state.reference)
         && state.held == scrambler.full()

@@ -14,21 +14,21 @@ pub const RECORD_POINTS: usize = 7;
 
 /// The first four bytes of record 0.
 const MARK: &[u8; 4] = b"VSYM";
-const MODE_AT: usize = 4;
-const ROLE_AT: usize = 5;
-const FIRST_AT: usize = 6;
-const TOTAL_AT: usize = 8;
-const RECORD_0_END: usize = 12;
+pub(crate) const MODE_AT: usize = 4;
+pub(crate) const ROLE_AT: usize = 5;
+pub(crate) const FIRST_AT: usize = 6;
+pub(crate) const TOTAL_AT: usize = 8;
+pub(crate) const RECORD_0_END: usize = 12;
 
 /// Places in a chain record; its next index stands at byte 0.
-const KIND_AT: usize = 2;
-const COUNT_AT: usize = 3;
-const BODY_AT: usize = 4;
-const LOST_END: usize = 8;
+pub(crate) const KIND_AT: usize = 2;
+pub(crate) const COUNT_AT: usize = 3;
+pub(crate) const BODY_AT: usize = 4;
+pub(crate) const LOST_END: usize = 8;
 const POINT_BYTES: usize = 4;
 
-const KIND_POINTS: u8 = 1;
-const KIND_LOST: u8 = 2;
+pub(crate) const KIND_POINTS: u8 = 1;
+pub(crate) const KIND_LOST: u8 = 2;
 
 /// An event of a track.
 #[derive(Clone, Copy, PartialEq, Eq, Debug)]
@@ -47,15 +47,15 @@ pub struct Track<'a> {
 
 /// What one pass over an accepted store finds.
 #[derive(Clone, Copy, PartialEq, Eq, Debug)]
-struct Chain {
-    total: u32,
-    events: usize,
+pub(crate) struct Chain {
+    pub total: u32,
+    pub events: usize,
     /// The index of the last record, 0 if the track is empty.
-    last: usize,
+    pub last: usize,
     /// Points that still fit into the last record.
-    room: usize,
+    pub room: usize,
     /// The greatest index, 0 if the track is empty.
-    greatest: usize,
+    pub greatest: usize,
 }
 
 /// The content of a chain record.
@@ -66,11 +66,11 @@ enum Record {
     Lost(u32),
 }
 
-fn u16_at(bytes: &[u8], at: usize) -> u16 {
+pub(crate) fn u16_at(bytes: &[u8], at: usize) -> u16 {
     u16::from_le_bytes([bytes[at], bytes[at + 1]])
 }
 
-fn u32_at(bytes: &[u8], at: usize) -> u32 {
+pub(crate) fn u32_at(bytes: &[u8], at: usize) -> u32 {
     u32::from_le_bytes([bytes[at], bytes[at + 1], bytes[at + 2], bytes[at + 3]])
 }
 
@@ -103,7 +103,7 @@ fn all_zero(bytes: &[u8]) -> bool {
 }
 
 /// Number 11.
-fn check_size(store: &[u8]) -> Result<(), Refusal> {
+pub(crate) fn check_size(store: &[u8]) -> Result<(), Refusal> {
     let records = store.len() / RECORD;
     let whole = store.len().is_multiple_of(RECORD);
     let in_range = (FEWEST_RECORDS..=MOST_RECORDS).contains(&records);
@@ -111,7 +111,7 @@ fn check_size(store: &[u8]) -> Result<(), Refusal> {
 }
 
 /// Number 12.
-fn check_record_0(store: &[u8]) -> Result<(), Refusal> {
+pub(crate) fn check_record_0(store: &[u8]) -> Result<(), Refusal> {
     let known = Mode::find_with_role(store[MODE_AT], store[ROLE_AT]).is_ok();
     let unused = &store[RECORD_0_END..RECORD];
     need(

@@ -1,10 +1,12 @@
 //! Blocks of points handed over by one call: byte by byte what the outside
-//! implementation's block gives, and what the single calls give one by one.
+//! implementation's block gives, plain and tuned, and what the single calls give
+//! one by one.
 
 use outside::mode::Mode;
 use outside::receiver::{self, Answer, Receiver};
 use outside::refusal::Refusal;
 use outside::rng::Rng;
+use outside::tuned;
 
 use crate::layout::{self, STATE};
 use crate::tally::Tally;
@@ -63,7 +65,7 @@ fn single_calls(
     (Ok(state), same)
 }
 
-/// Runs one block on both sides; gives the state after it.
+/// Runs one block on all sides; gives the state after it.
 fn run(tally: &mut Tally, rng: &mut Rng, mode: &Mode, before: [u8; STATE]) -> [u8; STATE] {
     let count = rng.below(40) as usize;
     let numbers = random_numbers(rng, mode, count);
@@ -71,8 +73,9 @@ fn run(tally: &mut Tally, rng: &mut Rng, mode: &Mode, before: [u8; STATE]) -> [u
         0 => count.saturating_sub(1),
         _ => count + rng.below(3) as usize,
     };
-    let (mut line, mut plain) = (vec![UNWRITTEN; room(rng)], vec![UNWRITTEN; room(rng)]);
-    let (mut right_line, mut right_plain) = (line.clone(), plain.clone());
+    let unwritten = (vec![UNWRITTEN; room(rng)], vec![UNWRITTEN; room(rng)]);
+    let (mut line, mut plain) = unwritten.clone();
+    let (mut right_line, mut right_plain) = unwritten.clone();
     let start = layout::receiver_of(&before);
     let right = receiver::receive_points(start, &numbers, &mut right_line, &mut right_plain);
     let mut state = before;
@@ -86,6 +89,12 @@ fn run(tally: &mut Tally, rng: &mut Rng, mode: &Mode, before: [u8; STATE]) -> [u
         && plain == right_plain;
     tally.check(same, || {
         format!("block of {count}, state {before:?}: {number} {state:?}, outside {right_number} {right_state:?}")
+    });
+    let (mut tuned_line, mut tuned_plain) = unwritten;
+    let tuned = tuned::receive_points(start, &numbers, &mut tuned_line, &mut tuned_plain);
+    let same = tuned == right && tuned_line == right_line && tuned_plain == right_plain;
+    tally.check(same, || {
+        format!("block of {count}, state {before:?}: tuned")
     });
     if number == 0 {
         let (singly, same) = single_calls(start, mode.width, &numbers, &line, &plain);

@@ -11,3 +11,4 @@ pub mod sending;
 pub mod stores;
 pub mod storing;
 pub mod tally;
+pub mod timing;

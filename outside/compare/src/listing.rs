@@ -2,6 +2,7 @@
 
 use outside::listing;
 use outside::rng::Rng;
+use outside::tuned;
 
 use crate::tally::{one_or_two, Tally};
 use crate::{ours, stores};
@@ -10,8 +11,8 @@ use crate::{ours, stores};
 const UNWRITTEN: u8 = 0xa5;
 const SEED: u64 = 5;
 
-/// Lists a store on both sides.
-fn run(tally: &mut Tally, store: &[u8], out: &mut [u8]) {
+/// Lists a store on all sides.
+fn run(tally: &mut Tally, store: &[u8], out: &mut [u8], tuned_out: &mut [u8]) {
     out.fill(UNWRITTEN);
     let right = listing::list(store);
     let mut count = [0];
@@ -25,6 +26,10 @@ fn run(tally: &mut Tally, store: &[u8], out: &mut [u8]) {
             store.len(),
             count[0]
         )
+    });
+    let length = tuned::list(store, tuned_out).unwrap_or(0);
+    tally.check(tuned_out[..length] == right, || {
+        format!("listing of {} bytes: tuned", store.len())
     });
 }
 
@@ -49,6 +54,7 @@ pub fn compare(count: u64) -> bool {
     let mut tally = Tally::default();
     let mut rng = Rng::new(SEED);
     let mut out = vec![0; ours::LISTING_BYTES];
+    let mut tuned_out = vec![0; tuned::LISTING_ROOM];
     for k in 0..count {
         let mut store = stores::sound(&mut rng);
         if k % 4 == 0 {
@@ -56,10 +62,10 @@ pub fn compare(count: u64) -> bool {
                 stores::damage(&mut rng, &mut store, fault);
             }
         }
-        run(&mut tally, &store, &mut out);
+        run(&mut tally, &store, &mut out, &mut tuned_out);
     }
     for size in [0, 1, 31, 32, 33, 64, 65_536, 65_537, 70_000] {
-        run(&mut tally, &vec![0; size], &mut out);
+        run(&mut tally, &vec![0; size], &mut out, &mut tuned_out);
     }
     run_short(&mut tally, &mut rng, &mut out);
     println!("listing: {count} random stores, seed {SEED}");

@@ -69,3 +69,11 @@ pub fn out_of_range(rng: &mut Rng) -> Point {
         Point { re: other, im: far }
     }
 }
+
+/// The numbers of some points, re and im in turn.
+pub fn flat(points: &[Point]) -> Vec<i16> {
+    points
+        .iter()
+        .flat_map(|point| [point.re, point.im])
+        .collect()
+}

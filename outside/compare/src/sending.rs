@@ -4,6 +4,7 @@
 use outside::mode::{Mode, MODES};
 use outside::rng::Rng;
 use outside::sender::{self, Sender};
+use outside::tuned;
 use outside::units::BitCount;
 
 use crate::layout::{self, STATE};
@@ -68,10 +69,17 @@ fn run_send(
     offset: usize,
 ) -> (u8, [u8; STATE]) {
     let mut out = vec![UNWRITTEN; lent];
-    let (mut right_out, mut after, mut right_after) = (out.clone(), state, state);
+    let (mut right_out, mut tuned_out) = (out.clone(), out.clone());
+    let (mut after, mut right_after) = (state, state);
     let number = ours::send(&mut after, input, &mut out, offset);
     tally.count(number);
-    let right = match sender::send(layout::sender_of(&state), input, &mut right_out, offset) {
+    let start = layout::sender_of(&state);
+    let told = sender::send(start, input, &mut right_out, offset);
+    let tuned = tuned::send(start, input, &mut tuned_out, offset);
+    tally.check(tuned == told && tuned_out == right_out, || {
+        format!("send {state:?} {input:?} {lent} {offset}: tuned {tuned:?}, plain {told:?}")
+    });
+    let right = match told {
         Err(refusal) => refusal.0,
         Ok(next) => {
             right_after = layout::sender_bytes(&next);

@@ -5,6 +5,7 @@ use outside::point::Point;
 use outside::refusal::Refusal;
 use outside::rng::Rng;
 use outside::store;
+use outside::tuned;
 
 use crate::tally::{one_or_two, Tally};
 use crate::{ours, points, stores};
@@ -42,13 +43,6 @@ fn random_call(rng: &mut Rng) -> Call {
     }
 }
 
-fn flat(points: &[Point]) -> Vec<i16> {
-    points
-        .iter()
-        .flat_map(|point| [point.re, point.im])
-        .collect()
-}
-
 /// Runs a call on both sides; gives its number and the store after it.
 fn run(tally: &mut Tally, before: &[u8], call: &Call) -> (u8, Vec<u8>) {
     let (mut bytes, mut right_bytes) = (before.to_vec(), before.to_vec());
@@ -66,7 +60,7 @@ fn run(tally: &mut Tally, before: &[u8], call: &Call) -> (u8, Vec<u8>) {
             store::append_lost(&mut right_bytes, *n),
         ),
         Call::Points(points) => (
-            ours::append_points(&mut bytes, &flat(points)),
+            ours::append_points(&mut bytes, &points::flat(points)),
             store::append_points(&mut right_bytes, points),
         ),
     };
@@ -76,7 +70,26 @@ fn run(tally: &mut Tally, before: &[u8], call: &Call) -> (u8, Vec<u8>) {
     tally.check(number == right && bytes == right_bytes && kept, || {
         format!("store of {} bytes: {number}, outside {right}", before.len())
     });
+    run_tuned(tally, before, call, right, &right_bytes);
     (number, bytes)
+}
+
+/// Holds the tuned append against what the plain one gave.
+fn run_tuned(tally: &mut Tally, before: &[u8], call: &Call, right: u8, right_bytes: &[u8]) {
+    let numbers = match call {
+        Call::Point(point) => vec![point.re, point.im],
+        Call::Points(points) => points::flat(points),
+        Call::Make(..) | Call::Lost(_) => return,
+    };
+    let mut bytes = before.to_vec();
+    let told = tuned::append_points(&mut bytes, &numbers);
+    let number = told.err().map_or(0, |Refusal(number)| number);
+    tally.check(number == right && bytes == right_bytes, || {
+        format!(
+            "store of {} bytes: tuned {number}, plain {right}",
+            before.len()
+        )
+    });
 }
 
 /// Reads a store into lent numbers, at times too few or from an offset past

@@ -146,7 +146,7 @@ fn write_many(folder: &Path) -> io::Result<()> {
 fn random(rng: &mut Rng, seed: u64) -> Vec<u8> {
     let mode = 1 + (seed % 4) as u8;
     let role = if mode <= 2 { 0 } else { rng.below(2) as u8 };
-    let records = if seed % 8 == 0 {
+    let records = if seed.is_multiple_of(8) {
         MOST_RECORDS
     } else {
         2 + rng.below(60) as usize

@@ -1,0 +1,48 @@
+//! What the rows are given.
+
+use outside::mode::Mode;
+use outside::point::{self, Point};
+use outside::rng::Rng;
+
+use crate::points;
+
+const ORIGIN: Point = Point { re: 0, im: 0 };
+/// One point in so many is at the origin where there are any.
+const ORIGINS: u64 = 64;
+/// The greatest noise of a sent point's coordinate.
+const NOISE: i64 = 300;
+
+/// Random points of a mode, none of them the origin: near decision edges, near
+/// sent points, and anywhere in range.
+pub fn random(mode: &Mode, count: usize) -> Vec<Point> {
+    let mut rng = Rng::new(u64::from(mode.number));
+    let any = std::iter::from_fn(|| Some(points::in_range(&mut rng, mode)));
+    any.filter(|&point| point != ORIGIN).take(count).collect()
+}
+
+/// Sent points with noise, as on a line.
+pub fn noisy(mode: &Mode, count: usize) -> Vec<Point> {
+    let mut rng = Rng::new(u64::from(mode.number));
+    let mut one = |_| {
+        let state = mode.states[rng.below(mode.states.len() as u64) as usize];
+        let sent = point::sent(mode, state);
+        let mut moved = |x: i16| x + rng.between(-NOISE, NOISE) as i16;
+        Point {
+            re: moved(sent.re),
+            im: moved(sent.im),
+        }
+    };
+    (0..count).map(&mut one).collect()
+}
+
+/// Random points, one in 64 at the origin.
+pub fn with_origins(mode: &Mode, count: usize) -> Vec<Point> {
+    let mut rng = Rng::new(9);
+    let mut points = random(mode, count);
+    for point in &mut points {
+        if rng.below(ORIGINS) == 0 {
+            *point = ORIGIN;
+        }
+    }
+    points
+}
