@@ -21,19 +21,23 @@ fn one_of<T: Copy>(rng: &mut Rng, all: &[T]) -> T {
     all[rng.below(all.len() as u64) as usize]
 }
 
-/// Receives on both sides into so many lent bytes; gives what both gave.
+/// Receives plainly and tuned, in both ways, into so many lent bytes; gives what
+/// all gave.
 fn receive(state: Receiver, points: &[i16], lent: (usize, usize)) -> Result<Receiver, Refusal> {
-    let (mut line, mut plain) = (vec![UNWRITTEN; lent.0], vec![UNWRITTEN; lent.1]);
-    let (mut right_line, mut right_plain) = (line.clone(), plain.clone());
-    let next = tuned::receive_points(state, points, &mut line, &mut plain);
+    let unwritten = (vec![UNWRITTEN; lent.0], vec![UNWRITTEN; lent.1]);
+    let (mut right_line, mut right_plain) = unwritten.clone();
     let right = receiver::receive_points(state, points, &mut right_line, &mut right_plain);
-    assert_eq!(next, right, "{state:?}");
-    assert_eq!(line, right_line, "{state:?}");
-    assert_eq!(plain, right_plain, "{state:?}");
-    if next.is_err() {
-        assert!(line.iter().chain(&plain).all(|&byte| byte == UNWRITTEN));
+    for receive_points in [tuned::receive_points, tuned::receive_in_passes] {
+        let (mut line, mut plain) = unwritten.clone();
+        let next = receive_points(state, points, &mut line, &mut plain);
+        assert_eq!(next, right, "{state:?}");
+        assert_eq!(line, right_line, "{state:?}");
+        assert_eq!(plain, right_plain, "{state:?}");
+        if next.is_err() {
+            assert!(line.iter().chain(&plain).all(|&byte| byte == UNWRITTEN));
+        }
     }
-    next
+    right
 }
 
 fn accepted(state: Receiver, points: &[i16]) -> Receiver {

@@ -90,12 +90,14 @@ fn run(tally: &mut Tally, rng: &mut Rng, mode: &Mode, before: [u8; STATE]) -> [u
     tally.check(same, || {
         format!("block of {count}, state {before:?}: {number} {state:?}, outside {right_number} {right_state:?}")
     });
-    let (mut tuned_line, mut tuned_plain) = unwritten;
-    let tuned = tuned::receive_points(start, &numbers, &mut tuned_line, &mut tuned_plain);
-    let same = tuned == right && tuned_line == right_line && tuned_plain == right_plain;
-    tally.check(same, || {
-        format!("block of {count}, state {before:?}: tuned")
-    });
+    for receive_points in [tuned::receive_points, tuned::receive_in_passes] {
+        let (mut line, mut plain) = unwritten.clone();
+        let tuned = receive_points(start, &numbers, &mut line, &mut plain);
+        let same = tuned == right && line == right_line && plain == right_plain;
+        tally.check(same, || {
+            format!("block of {count}, state {before:?}: tuned")
+        });
+    }
     if number == 0 {
         let (singly, same) = single_calls(start, mode.width, &numbers, &line, &plain);
         let as_singly = singly.is_ok_and(|next| layout::receiver_bytes(&next) == state);

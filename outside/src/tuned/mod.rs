@@ -3,13 +3,14 @@
 
 mod append;
 mod chain;
-mod few;
 mod list;
+mod passes;
 mod receive;
 mod send;
+mod serial;
 mod symbol;
 
 pub use append::append_points;
 pub use list::{list, LISTING_ROOM};
-pub use receive::receive_points;
+pub use receive::{receive_in_passes, receive_points};
 pub use send::send;

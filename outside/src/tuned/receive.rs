@@ -1,22 +1,35 @@
-//! Blocks of points, received in passes over a stretch of them: symbols, line
-//! bits, data bits. The descrambler has no feedback, so no pass waits for the
-//! point before; origin points and unsettled bits are put in afterwards.
+//! Blocks of points: what refuses a block, and the loop of its mode and role.
 
-use super::few;
-use super::symbol::{self, ORIGIN};
-use crate::receiver::{self, Receiver, GAP_BYTE, REFERENCE_BYTE};
+use super::{passes, serial};
+use crate::receiver::{self, Receiver};
 use crate::refusal::{need, Refusal};
-use crate::units::{BitCount, UnitIntervals};
 
-/// The points that a pass goes over.
-const STRETCH: usize = 128;
-/// Fewer points than this are received one after the other.
+/// Fewer points than this are received one after the other: passes would take
+/// longer to start than to run.
 const FEW: usize = 16;
-/// The groups of line bits kept from before: they hold 23 line bits.
-const BACK: usize = 12;
 
-/// What `receiver::receive_points` does: refuses by 1, 2, 4, 7, 8 and 16.
+/// What `receiver::receive_points` does: refuses by 1, 2, 4, 7, 8 and 16. One
+/// point after the other.
 pub fn receive_points(
+    state: Receiver,
+    points: &[i16],
+    line: &mut [u8],
+    plain: &mut [u8],
+) -> Result<Receiver, Refusal> {
+    checked::<false>(state, points, line, plain)
+}
+
+/// The same in passes over a stretch of points.
+pub fn receive_in_passes(
+    state: Receiver,
+    points: &[i16],
+    line: &mut [u8],
+    plain: &mut [u8],
+) -> Result<Receiver, Refusal> {
+    checked::<true>(state, points, line, plain)
+}
+
+fn checked<const PASSES: bool>(
     state: Receiver,
     points: &[i16],
     line: &mut [u8],
@@ -31,12 +44,12 @@ pub fn receive_points(
     need(count <= left, Refusal::TOO_LONG)?;
     let (line, plain) = (&mut line[..count], &mut plain[..count]);
     Ok(match (state.mode, state.role) {
-        (1, _) => receive::<1, 6>(state, points, line, plain),
-        (2, _) => receive::<2, 6>(state, points, line, plain),
-        (3, 0) => receive::<3, 18>(state, points, line, plain),
-        (3, _) => receive::<3, 5>(state, points, line, plain),
-        (_, 0) => receive::<4, 18>(state, points, line, plain),
-        (_, _) => receive::<4, 5>(state, points, line, plain),
+        (1, _) => receive::<PASSES, 1, 6>(state, points, line, plain),
+        (2, _) => receive::<PASSES, 2, 6>(state, points, line, plain),
+        (3, 0) => receive::<PASSES, 3, 18>(state, points, line, plain),
+        (3, _) => receive::<PASSES, 3, 5>(state, points, line, plain),
+        (_, 0) => receive::<PASSES, 4, 18>(state, points, line, plain),
+        (_, _) => receive::<PASSES, 4, 5>(state, points, line, plain),
     })
 }
 
@@ -50,167 +63,16 @@ pub(super) fn in_range(points: &[i16]) -> bool {
     least >= -16384 && most <= 16384
 }
 
-/// Takes points that are not refused, a stretch at a time.
-fn receive<const MODE: u8, const NEAR: u32>(
+/// Takes points that are not refused.
+fn receive<const PASSES: bool, const MODE: u8, const NEAR: u32>(
     state: Receiver,
     points: &[i16],
     line: &mut [u8],
     plain: &mut [u8],
 ) -> Receiver {
-    if line.len() < FEW {
-        return few::receive::<MODE, NEAR>(state, points, line, plain);
+    if PASSES && line.len() >= FEW {
+        passes::receive::<MODE, NEAR>(state, points, line, plain)
+    } else {
+        serial::receive::<MODE, NEAR>(state, points, line, plain)
     }
-    let mut passes = Passes::<MODE, NEAR>::of(&state);
-    let bytes = line.chunks_mut(STRETCH).zip(plain.chunks_mut(STRETCH));
-    for (points, (line, plain)) in points.chunks(2 * STRETCH).zip(bytes) {
-        passes.take(points, line, plain);
-    }
-    let intervals = (points.len() / 2) as u32;
-    Receiver {
-        reference: passes.reference(),
-        register: passes.register(),
-        held: BitCount(passes.held as u32),
-        place: UnitIntervals(state.place.0 + intervals),
-        ..state
-    }
-}
-
-/// The state between stretches, and what the passes hand on.
-struct Passes<const MODE: u8, const NEAR: u32> {
-    /// The reference's symbol, then those of the stretch.
-    symbols: [u8; 1 + STRETCH],
-    /// The last groups before the stretch, then those of the stretch.
-    groups: [u8; BACK + STRETCH],
-    has_reference: bool,
-    /// Line bits since the last gap, at most R.
-    held: usize,
-}
-
-impl<const MODE: u8, const NEAR: u32> Passes<MODE, NEAR> {
-    const W: usize = symbol::mode(MODE).width as usize;
-    const R: usize = symbol::mode(MODE).register_length as usize;
-    const ALL: u8 = (1 << Self::W) - 1;
-
-    fn of(state: &Receiver) -> Self {
-        let mut passes = Passes {
-            symbols: [0; 1 + STRETCH],
-            groups: [0; BACK + STRETCH],
-            has_reference: state.reference.is_some(),
-            held: state.held.0 as usize,
-        };
-        passes.symbols[0] = symbol::of_state::<MODE>(state.reference.unwrap_or(0));
-        for (back, group) in passes.groups[..BACK].iter_mut().rev().enumerate() {
-            *group = (u64::from(state.register) >> (Self::W * back)) as u8 & Self::ALL;
-        }
-        passes
-    }
-
-    fn take(&mut self, points: &[i16], line: &mut [u8], plain: &mut [u8]) {
-        let count = line.len();
-        decide::<MODE>(points, &mut self.symbols[1..=count]);
-        let symbols = self.symbols.iter().zip(&self.symbols[1..=count]);
-        for (group, (&before, &symbol)) in self.groups[BACK..].iter_mut().zip(symbols) {
-            *group = symbol::group::<MODE>(before, symbol);
-        }
-        line.copy_from_slice(&self.groups[BACK..BACK + count]);
-        self.descramble(plain);
-        let marks = self.symbols[1..=count].iter().fold(0, |all, one| all | one);
-        if marks >= ORIGIN || !self.has_reference || self.held < Self::R {
-            self.mark(line, plain);
-        }
-        self.symbols[0] = self.symbols[count];
-        self.groups.copy_within(count..count + BACK, 0);
-    }
-
-    /// Data bits of the stretch: each line bit and those a and R back.
-    fn descramble(&self, plain: &mut [u8]) {
-        let count = plain.len();
-        let back = |groups: usize| &self.groups[BACK - groups..BACK - groups + count];
-        let near = back(NEAR as usize / Self::W)
-            .iter()
-            .zip(back((NEAR as usize).div_ceil(Self::W)));
-        let far = back(Self::R / Self::W)
-            .iter()
-            .zip(back(Self::R.div_ceil(Self::W)));
-        for (((plain, line), near), far) in plain.iter_mut().zip(back(0)).zip(near).zip(far) {
-            let near = Self::tapped(near, NEAR as usize);
-            let far = Self::tapped(far, Self::R);
-            *plain = (line ^ near ^ far) & Self::ALL;
-        }
-    }
-
-    /// The line bits `tap` back from a group's: the end of the earlier group
-    /// and the start of the later one, which are one group if w divides `tap`.
-    #[inline(always)]
-    fn tapped((later, earlier): (&u8, &u8), tap: usize) -> u8 {
-        match tap % Self::W {
-            0 => *later,
-            rest => earlier << (Self::W - rest) | later >> rest,
-        }
-    }
-
-    /// Puts in the bytes of origin points and what follows from them. What the
-    /// passes made of a settled bit does not depend on line bits before a gap.
-    fn mark(&mut self, line: &mut [u8], plain: &mut [u8]) {
-        let mut at = 0;
-        loop {
-            let end = at + until_origin(&self.symbols[1 + at..1 + line.len()]);
-            self.mark_run(&mut line[at..end], &mut plain[at..end]);
-            if end == line.len() {
-                return;
-            }
-            (line[end], plain[end]) = (GAP_BYTE, 0);
-            (self.has_reference, self.held) = (false, 0);
-            at = end + 1;
-        }
-    }
-
-    /// Marks the reference and the unsettled bits of points without a gap.
-    fn mark_run(&mut self, line: &mut [u8], plain: &mut [u8]) {
-        let mut plain = plain.iter_mut();
-        if !self.has_reference {
-            let (Some(line), Some(plain)) = (line.first_mut(), plain.next()) else {
-                return;
-            };
-            (*line, *plain) = (REFERENCE_BYTE, 0);
-            self.has_reference = true;
-        }
-        for plain in plain {
-            if self.held == Self::R {
-                return;
-            }
-            let unsettled = Self::W.min(Self::R - self.held);
-            *plain = (*plain & (Self::ALL >> unsettled)) + 16 * unsettled as u8;
-            self.held = Self::R.min(self.held + Self::W);
-        }
-    }
-
-    fn reference(&self) -> Option<u8> {
-        self.has_reference
-            .then(|| symbol::state::<MODE>(self.symbols[0]))
-    }
-
-    /// The held line bits, newest lowest.
-    fn register(&self) -> u32 {
-        let bits = self.groups[..BACK]
-            .iter()
-            .fold(0, |bits, &group| bits << Self::W | u64::from(group));
-        (bits & ((1 << self.held) - 1)) as u32
-    }
-}
-
-fn decide<const MODE: u8>(points: &[i16], symbols: &mut [u8]) {
-    let (mut re, mut im) = ([0; STRETCH], [0; STRETCH]);
-    for (point, (re, im)) in points.chunks_exact(2).zip(re.iter_mut().zip(&mut im)) {
-        (*re, *im) = (point[0], point[1]);
-    }
-    for ((symbol, &re), &im) in symbols.iter_mut().zip(&re).zip(&im) {
-        *symbol = symbol::decide::<MODE>(re, im);
-    }
-}
-
-/// How many symbols stand before the first mark of an origin.
-fn until_origin(symbols: &[u8]) -> usize {
-    let marked = |symbol: &u8| *symbol >= ORIGIN;
-    symbols.iter().position(marked).unwrap_or(symbols.len())
 }

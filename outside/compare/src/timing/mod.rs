@@ -50,7 +50,7 @@ impl Signal {
 /// timed with each role; a store's other rows do not depend on the role.
 type Row = (&'static str, fn(&str, Signal), bool);
 
-const ROWS: [Row; 13] = [
+const ROWS: [Row; 14] = [
     ("noise: plain against itself", receiving::noise, true),
     ("receive, single", receiving::single, true),
     (
@@ -72,6 +72,11 @@ const ROWS: [Row; 13] = [
     (
         "receive, bulk, origins and gaps",
         receiving::bulk_with_gaps,
+        true,
+    ),
+    (
+        "receive, bulk, noisy sent points, tuned in passes",
+        receiving::bulk_in_passes,
         true,
     ),
     ("send, 20,000 points", sending::send, true),

@@ -224,34 +224,47 @@ impl<'a> Blocks<'a> {
         })
     }
 
+    /// With the tuned receiver that takes one point after the other.
     pub fn work(&self) -> Work<'_> {
+        self.against(tuned::receive_points)
+    }
+
+    fn against(&self, tuned: ReceiveBlock) -> Work<'_> {
         Work {
             proved: self.proved_side(),
             plain: Some(self.side(receiver::receive_points)),
-            tuned: Some(self.side(tuned::receive_points)),
+            tuned: Some(self.side(tuned)),
         }
     }
 }
 
-fn bulk_row(name: &str, signal: Signal, points: &[Point], gaps: bool) {
+fn bulk_row(name: &str, signal: Signal, points: &[Point], gaps: bool, tuned: ReceiveBlock) {
     let blocks = Blocks {
         signal,
         numbers: &points::flat(points),
         size: BLOCK,
         gaps,
     };
-    call_row(name, signal, POINTS, blocks.work());
+    call_row(name, signal, POINTS, blocks.against(tuned));
 }
 
 pub fn bulk(name: &str, signal: Signal) {
-    bulk_row(name, signal, &input::random(signal.mode, POINTS), false);
+    let points = input::random(signal.mode, POINTS);
+    bulk_row(name, signal, &points, false, tuned::receive_points);
 }
 
 pub fn bulk_noisy(name: &str, signal: Signal) {
-    bulk_row(name, signal, &input::noisy(signal.mode, POINTS), false);
+    let points = input::noisy(signal.mode, POINTS);
+    bulk_row(name, signal, &points, false, tuned::receive_points);
 }
 
 pub fn bulk_with_gaps(name: &str, signal: Signal) {
     let points = input::with_origins(signal.mode, POINTS);
-    bulk_row(name, signal, &points, true);
+    bulk_row(name, signal, &points, true, tuned::receive_points);
+}
+
+/// Against the tuned receiver that goes over the points in passes.
+pub fn bulk_in_passes(name: &str, signal: Signal) {
+    let points = input::noisy(signal.mode, POINTS);
+    bulk_row(name, signal, &points, false, tuned::receive_in_passes);
 }

@@ -1,5 +1,5 @@
-//! Blocks of few points, received one after the other: passes would take longer
-//! to start than to run.
+//! Blocks of points, received one after the other: one loop for each mode and
+//! role, with the state in locals and no branch on where a point lies.
 
 use super::symbol::{self, ORIGIN};
 use crate::receiver::{Receiver, GAP_BYTE, REFERENCE_BYTE};
@@ -12,27 +12,27 @@ pub fn receive<const MODE: u8, const NEAR: u32>(
     line: &mut [u8],
     plain: &mut [u8],
 ) -> Receiver {
-    let mut few = Few::<MODE, NEAR> {
+    let mut serial = Serial::<MODE, NEAR> {
         reference: state.reference.map(symbol::of_state::<MODE>),
         register: state.register,
         held: state.held.0,
     };
     let bytes = line.iter_mut().zip(plain);
     for (point, (line, plain)) in points.chunks_exact(2).zip(bytes) {
-        (*line, *plain) = few.take(symbol::decide::<MODE>(point[0], point[1]));
+        (*line, *plain) = serial.take(symbol::decide::<MODE>(point[0], point[1]));
     }
     let intervals = (points.len() / 2) as u32;
     Receiver {
-        reference: few.reference.map(symbol::state::<MODE>),
-        register: few.register & ((1 << few.held) - 1),
-        held: BitCount(few.held),
+        reference: serial.reference.map(symbol::state::<MODE>),
+        register: serial.register & ((1 << serial.held) - 1),
+        held: BitCount(serial.held),
         place: UnitIntervals(state.place.0 + intervals),
         ..state
     }
 }
 
 /// The state between points.
-struct Few<const MODE: u8, const NEAR: u32> {
+struct Serial<const MODE: u8, const NEAR: u32> {
     /// The reference's symbol.
     reference: Option<u8>,
     /// Line bits, newest lowest, of which those held count.
@@ -40,7 +40,7 @@ struct Few<const MODE: u8, const NEAR: u32> {
     held: u32,
 }
 
-impl<const MODE: u8, const NEAR: u32> Few<MODE, NEAR> {
+impl<const MODE: u8, const NEAR: u32> Serial<MODE, NEAR> {
     const W: u32 = symbol::mode(MODE).width;
     const R: u32 = symbol::mode(MODE).register_length;
     const ALL: u8 = (1 << Self::W) - 1;
