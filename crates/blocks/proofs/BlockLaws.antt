@@ -184,7 +184,7 @@ unfolding eventRefusal
 each-in-range s [] f = tt
 each-in-range s (p ∷ ps) f = and-intro (inRange p) _ (need-met (inRange p) 7 _ (own-refusal s p (f .0))) (each-in-range (next s (point p)) ps (f .1))
 
-each-has-place : (s : Receiver) (ps : List Point) → s .place .0 ≤ 4294967295 → EachAccepted s ps → s .place .0 + length ps ≤ 4294967295
+pub each-has-place : (s : Receiver) (ps : List Point) → s .place .0 ≤ 4294967295 → EachAccepted s ps → s .place .0 + length ps ≤ 4294967295
 each-has-place s [] l f = omega arith
 each-has-place s (p ∷ ps) l f =
     let q = place-next s p (f .0) in

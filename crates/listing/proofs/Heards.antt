@@ -25,7 +25,7 @@ use Rattle.receiver.proofs.OutcomeLaws.{next-placed}
 use Rattle.receiver.proofs.CallLaws.{Valid, no-refusal, next-valid}
 use Rattle.store.specs.Chain.{gather, sumOver}
 use Rattle.store.specs.Layout.{Event, point, lost, rec, held, isPoints, pointAt, points, pointsOk, kind, recordOk, spanOf, eventsOf}
-use Rattle.store.specs.Store.{chain, events, total, hasMark, headOk}
+use Rattle.store.specs.Store.{chain, events, total, hasMark, headOk, refusal}
 use Rattle.store.proofs.Chains.{All}
 use Rattle.store.proofs.Records.{total-at}
 use Rattle.store.proofs.Sounds.{accepted-sound}
@@ -93,7 +93,7 @@ chain-span f (i ∷ c) =
     omega (arith, span-append (eventsOf (f i)) (gather (λ j. eventsOf (f j)) c), record-span (f i), chain-span f c)
 
 -- ---- what a receiver refuses
-in-sector : (d : Decision) → (d ≡ NoSector → ⊥) → T (inSector d)
+pub in-sector : (d : Decision) → (d ≡ NoSector → ⊥) → T (inSector d)
 in-sector (State y) h = tt
 in-sector Origin h = tt
 in-sector NoSector h = absurd (h refl)
@@ -102,7 +102,7 @@ accepts : (s : Receiver) (e : Rattle.receiver.specs.Receiver.Event) → Valid s
 unfolding eventRefused
 accepts s e v z = ap (λ (n : ℕ). orNext n (eventNeeds s e)) (no-refusal s v) ∙ z
 
-placed : (s : Receiver) (e : Rattle.receiver.specs.Receiver.Event) → eventRefused s e ≡ 0 → next s e .place .0 ≡ s .place .0 + intervals e
+pub placed : (s : Receiver) (e : Rattle.receiver.specs.Receiver.Event) → eventRefused s e ≡ 0 → next s e .place .0 ≡ s .place .0 + intervals e
 unfolding placeAfter
 placed s e z = next-placed s e ∙ ap (λ (n : ℕ). accepted n (s .place .0 + intervals e) (s .place .0)) z
 
@@ -135,9 +135,13 @@ fresh-valid r e =
 total-small : (s : List ℕ) → AreBytes s → total s ≤ 4294967295
 total-small s b = omega (arith, total-at s, b 8, b 9, b 10, b 11)
 
-pub none-refused : NoneRefused
+-- a total that four bytes hold is all that the bytes are asked for
+pub heard-whole : (s : List ℕ) → refusal s ≡ 0 → total s ≤ 4294967295 → AllTaken (freshReceiver (modeIn s) (roleIn s)) (events s)
 unfolding events freshReceiver
-none-refused s b acc =
+heard-whole s acc h =
     let o = accepted-sound s acc in
     all-taken (events s) (freshReceiver (modeIn s) (roleIn s)) (fresh-valid (rec s 0) (o .head)) (chain-fine (rec s) (chain s) (o .records))
-    (omega (arith, chain-span (rec s) (chain s), o .sum, total-small s b))
+    (omega (arith, chain-span (rec s) (chain s), o .sum))
+
+pub none-refused : NoneRefused
+none-refused s b acc = heard-whole s acc (total-small s b)

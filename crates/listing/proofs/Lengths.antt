@@ -26,14 +26,14 @@ use Rattle.receiver.specs.declared.Receiver.{Receiver}
 use Rattle.receiver.specs.Receiver.{freshReceiver, Answer, refused, lineBits, stateAnswer, pointAnswer, eventAnswer, answer}
 use Rattle.receiver.specs.Receiver.{gap, next, lost as lostAnswer, point as hears, refusal as eventRefused}
 use Rattle.store.specs.Chain.{gather}
-use Rattle.store.specs.Layout.{Event, point, lost, count, rec, held, isPoints, pointAt, points, pointsOk, recordOk, eventsOf}
+use Rattle.store.specs.Layout.{Event, lost, count, rec, held, isPoints, pointAt, points, recordOk, eventsOf}
 use Rattle.store.specs.Layout.{next as nextIn}
 use Rattle.store.specs.Store.{chain, events, total, headOk, hasMark, refusal}
 use Rattle.store.proofs.Chains.{All, run-short}
 use Rattle.store.proofs.Sounds.{accepted-sound}
 use Rattle.listing.specs.Text.{decimal, glyphs, lineGlyphs, bitsAre, blank, kindText, lineText, lines, through, firstLine, chainText, refusedLine, modeIn, roleIn, text, longest}
 use Rattle.listing.proofs.Digits.{decimal-long, decimal-one}
-use Rattle.listing.proofs.Lines.{lines-append}
+use Rattle.listing.proofs.Lines.{lines-append, held-range}
 
 map-long : {A B : Type 0} (f : A → B) (xs : List A) → length (map f xs) ≡ length xs
 map-long f [] = refl
@@ -102,14 +102,11 @@ lost-long n s =
 
 -- ---- the lines of a record, and of a chain
 record-long : (r : List ℕ) (s : Receiver) → recordOk r ≡ true → length (lines s (eventsOf r)) ≤ 182
-unfolding recordOk eventsOf
+unfolding eventsOf
 record-long r s ok = by-test (isPoints r) of-points of-lost
   where
     of-points : isPoints r ≡ true → length (lines s (eventsOf r)) ≤ 182
-    of-points e =
-        let z = and-split (leb (held r) 7 && leb 1 (held r)) (pointsOk (drop 4 r) (held r)) (rw e at ok) in
-        let h : held r ≤ 7 = leb-true (held r) 7 (and-split (leb (held r) 7) (leb 1 (held r)) (z .0) .0) in
-        rw e (omega (arith, points-long (drop 4 r) (held r) s))
+    of-points e = rw e (omega (arith, held-range r ok e, points-long (drop 4 r) (held r) s))
 
     of-lost : isPoints r ≡ false → length (lines s (eventsOf r)) ≤ 182
     of-lost e = rw e (omega (arith, lost-long (u32 r 4) s))

@@ -9,27 +9,35 @@ use borrow.Author.Tests.{le-leb, lt-leb}
 use lib.Dec.{leb}
 use lib.ListN.{length, getD, take, drop, length-append}
 use lib.Seq.{sets-eq, take-at}
-use Rattle.line.specs.Refusal.{need, accepted}
+use Rattle.line.specs.Refusal.{accepted}
 use Rattle.receiver.specs.declared.Receiver.{Receiver}
 use Rattle.receiver.specs.Receiver.{freshReceiver}
 use Rattle.store.specs.Store.{events, total, sizeOk, refusal}
 use Rattle.store.proofs.Records.{rec-byte}
 use Rattle.listing.specs.Text.{lines, firstLine, chainText, refusedLine, modeIn, roleIn, text, longest, listNumber, listCount, listResult}
+use Rattle.listing.specs.Heard.{AllTaken}
 use Rattle.listing.specs.Wrote.{Wrote}
 use Rattle.listing.proofs.Writes.{wrote-then, wrote-as}
 use Rattle.listing.proofs.Lengths.{track-long, text-long}
+use Rattle.listing.proofs.Heards.{heard-whole}
 
 accepted-text : (s : List ℕ) → refusal s ≡ 0 → text s ≡ chainText (modeIn s) (roleIn s) (total s) (events s)
 unfolding text
 accepted-text s e = rw e
 
 module _ (s : List ℕ) (m role t : ℕ) (f : Receiver) (acc : refusal s ≡ 0) (em : m ≡ getD s 4 0) (er : role ≡ getD s 5 0) (et : t ≡ total s) (ef : f ≡ freshReceiver m role) where
+  mode-is : m ≡ modeIn s
+  mode-is = em ∙ sym (rec-byte s 0 4 (omega arith))
+
+  role-is : role ≡ roleIn s
+  role-is = er ∙ sym (rec-byte s 0 5 (omega arith))
+
   track-text : firstLine m role t ++ lines f (events s) ≡ text s
   unfolding chainText
-  track-text =
-      let p : m ≡ modeIn s = em ∙ sym (rec-byte s 0 4 (omega arith)) in
-      let q : role ≡ roleIn s = er ∙ sym (rec-byte s 0 5 (omega arith)) in
-      rw (ef, p, q, et) (sym (accepted-text s acc))
+  track-text = rw (ef, mode-is, role-is, et) (sym (accepted-text s acc))
+
+  pub track-free : t ≤ 4294967295 → AllTaken f (events s)
+  track-free h = rw (ef, mode-is, role-is) (heard-whole s acc (omega arith))
 
   pub track-room : (p : ℕ) → p ≡ 0 + length (firstLine m role t) → p + length (lines f (events s)) ≤ 500000
   track-room p e =

@@ -5,7 +5,7 @@ use mathlib.Core.List.{List, [], _∷_, _++_}
 use Prim.Native.Nat.{ℕ, zero, suc, _+_, _-_, _/_, _%_, _^_, _≤_, _<_}
 use native.Mathlib.Omega.{arith}
 use native.Mathlib.Nat.{sub-zero}
-use borrow.Author.Tests.{ltb-true, ltb-false}
+use borrow.Author.Tests.{ltb-true, ltb-false, ne-eqb}
 use lib.Dec.{ltb}
 use lib.ListN.{length, length-append}
 use lib.Seq.{sets}
@@ -13,19 +13,13 @@ use Rattle.line.proofs.Tests.{cond-true, cond-false}
 use Rattle.octets.proofs.Tests.{by-test}
 use Rattle.octets.proofs.Sets.{sets-then}
 use Rattle.scrambler.specs.Bits.{bits}
-use Rattle.scrambler.specs.Scramble.{unsettled, settled}
 use Rattle.scrambler.specs.Group.{marked}
 use Rattle.scrambler.proofs.BitLaws.{length-bits}
 use Rattle.listing.specs.Text.{glyphs, lineGlyphs, decimal, ref, bitsAre, lostAre, blank, lineEnd, trackMode, itsRole, itsTotal, refusedBy, kindText, lineText, firstLine, refusedLine}
-use Rattle.receiver.specs.declared.Receiver.{Receiver}
-use Rattle.receiver.specs.declared.Group.{Group}
-use Rattle.receiver.specs.declared.Intervals.{Intervals}
-use Rattle.receiver.specs.declared.Outcome.{Outcome}
-use Rattle.receiver.specs.declared.Outcome.the-variants.{Refused, Referenced, Bits, Gap}
-use Rattle.receiver.specs.Outcome.{answerOf, stateOf}
-use Rattle.listing.specs.Wrote.{Wrote}
+use Rattle.receiver.specs.Receiver.{lost}
+use Rattle.listing.specs.Wrote.{Wrote, byteAnswer}
 
--- one run after another, and no run
+-- one run after another
 pub wrote-then : {o o′ o″ u v : List ℕ} {at p q : ℕ} → Wrote o at u o′ p → Wrote o′ p v o″ q → Wrote o at (u ++ v) o″ q
 wrote-then {o} {o′} {o″} {u} {v} {at} {p} {q} a b =
     record {
@@ -33,8 +27,21 @@ wrote-then {o} {o′} {o″} {u} {v} {at} {p} {q} a b =
       behind = omega (arith, a .behind, b .behind, length-append u v);
     }
 
-pub wrote-none : (o : List ℕ) (at : ℕ) → Wrote o at [] o at
-wrote-none o at = record { written = refl; behind = omega arith }
+-- what is left to write: `rest` from p on makes `all` from `at` on
+pub record Rest (o₀ o : List ℕ) (at p : ℕ) (all rest : List ℕ) : Type 0 where
+  pub written : sets o p rest ≡ sets o₀ at all
+  pub behind : p + length rest ≡ at + length all
+
+pub rest-then : {o₀ o o′ all rest u v : List ℕ} {at p q : ℕ} → Rest o₀ o at p all rest → rest ≡ u ++ v → Wrote o p u o′ q → Rest o₀ o′ at q all v
+rest-then {o₀} {o} {o′} {all} {rest} {u} {v} {at} {p} {q} g e w =
+    record {
+      written = ap (λ (l : List ℕ). sets l q v) (w .written) ∙ sets-then u v o p q (sym (w .behind)) ∙ ap (sets o p) (sym e) ∙ g .written;
+      behind = omega (arith, w .behind, g .behind, ap length e, length-append u v);
+    }
+
+pub rest-none : {o₀ o all rest : List ℕ} {at p : ℕ} → Rest o₀ o at p all rest → rest ≡ [] → Wrote o₀ at all o p
+rest-none {o₀} {o} {all} {rest} {at} {p} g e =
+    record { written = sym (ap (sets o p) e) ∙ g .written; behind = omega (arith, g .behind, ap length e) }
 
 -- the same bytes by another name
 pub wrote-as : {o o′ u v : List ℕ} {at p : ℕ} → u ≡ v → Wrote o at u o′ p → Wrote o at v o′ p
@@ -94,45 +101,31 @@ pub lines-settled : (bs : List ℕ) → glyphs (marked 0 bs) ≡ lineGlyphs bs
 lines-settled [] = refl
 lines-settled (b ∷ bs) = ap (λ (l : List ℕ). (48 + b) ∷ l) (lines-settled bs)
 
--- ---- the state after an outcome
-module _ (s : Receiver) (o : Outcome) where
-  pub after-bits : (g : Group) (t : Receiver) → o ≡ Bits g t → t ≡ stateOf s o
-  after-bits g t e = sym (ap (stateOf s) e)
+-- ---- what a line's pieces make
+module _ {o o₁ o′ : List ℕ} {at p₁ p : ℕ} (place : ℕ) (start : Wrote o at (decimal place) o₁ p₁) where
+  module _ (w l b : ℕ) where
+    pub point-reference : l ≡ 16 → Wrote o₁ p₁ (ref ++ lineEnd) o′ p → Wrote o at (lineText place (byteAnswer w l b)) o′ p
+    unfolding lineText kindText byteAnswer
+    point-reference e a = rw e (wrote-then start a)
 
-  pub after-gap : (n : Intervals) (t : Receiver) → o ≡ Gap n t → t ≡ stateOf s o
-  after-gap n t e = sym (ap (stateOf s) e)
+    pub point-lost : l ≡ 17 → Wrote o₁ p₁ (lostAre ++ (49 ∷ lineEnd)) o′ p → Wrote o at (lineText place (byteAnswer w l b)) o′ p
+    unfolding lineText kindText byteAnswer decimal
+    point-lost e a = rw e (wrote-then start a)
 
--- ---- what an answer's pieces make
-pub answer-none : (o : List ℕ) (at w : ℕ) (r : Outcome) (n : ℕ) → r ≡ Refused n → Wrote o at (kindText (answerOf w r)) o at
-unfolding kindText
-answer-none o at w r n e = wrote-as (sym (ap (λ (x : Outcome). kindText (answerOf w x)) e)) (wrote-none o at)
+    pub point-bits : {o₂ o₃ o₄ o₅ : List ℕ} {p₂ p₃ p₄ p₅ : ℕ} → (l ≡ 16 → ⊥) → (l ≡ 17 → ⊥) → Wrote o₁ p₁ bitsAre o₂ p₂ → Wrote o₂ p₂ (glyphs (marked 0 (bits w l))) o₃ p₃
+        → Wrote o₃ p₃ blank o₄ p₄ → Wrote o₄ p₄ (glyphs (marked (b / 16) (bits w (b % 16)))) o₅ p₅ → Wrote o₅ p₅ lineEnd o′ p
+        → Wrote o at (lineText place (byteAnswer w l b)) o′ p
+    unfolding lineText kindText byteAnswer
+    point-bits h k a c d e f =
+        rw (ne-eqb l 16 h, ne-eqb l 17 k)
+        (wrote-then start (wrote-then (wrote-then a (wrote-then (wrote-as (lines-settled (bits w l)) c) (wrote-then d e))) f))
 
-module _ {o o′ : List ℕ} {at p : ℕ} (w : ℕ) (r : Outcome) where
-  pub answer-reference : (t : Receiver) → r ≡ Referenced t → Wrote o at ref o′ p → Wrote o at (kindText (answerOf w r)) o′ p
-  unfolding kindText
-  answer-reference t e a = wrote-as (sym (ap (λ (x : Outcome). kindText (answerOf w x)) e)) a
+  pub lost-wrote : {o₂ o₃ : List ℕ} {p₂ p₃ : ℕ} (n : ℕ) → Wrote o₁ p₁ lostAre o₂ p₂ → Wrote o₂ p₂ (decimal n) o₃ p₃ → Wrote o₃ p₃ lineEnd o′ p
+      → Wrote o at (lineText place (lost n)) o′ p
+  unfolding lineText kindText
+  lost-wrote n a b c = wrote-then start (wrote-then (wrote-then a b) c)
 
-  pub answer-gap : {o₁ : List ℕ} {p₁ : ℕ} (n : Intervals) (t : Receiver) → r ≡ Gap n t → Wrote o at lostAre o₁ p₁ → Wrote o₁ p₁ (decimal (n .0)) o′ p
-      → Wrote o at (kindText (answerOf w r)) o′ p
-  unfolding kindText
-  answer-gap n t e a b = wrote-as (sym (ap (λ (x : Outcome). kindText (answerOf w x)) e)) (wrote-then a b)
-
-  pub answer-bits : {o₁ o₂ o₃ : List ℕ} {p₁ p₂ p₃ : ℕ} (g : Group) (t : Receiver) → r ≡ Bits g t → Wrote o at bitsAre o₁ p₁
-      → Wrote o₁ p₁ (glyphs (marked 0 (bits w (g .line)))) o₂ p₂ → Wrote o₂ p₂ blank o₃ p₃
-      → Wrote o₃ p₃ (glyphs (marked (g .unsettled .0) (bits w (g .plain)))) o′ p → Wrote o at (kindText (answerOf w r)) o′ p
-  unfolding kindText
-  answer-bits g t e a b c d =
-      wrote-as (sym (ap (λ (x : Outcome). kindText (answerOf w x)) e))
-      (wrote-then a (wrote-then (wrote-as (lines-settled (bits w (g .line))) b) (wrote-then c d)))
-
--- ---- and a line's
 module _ {o o₁ o₂ o′ : List ℕ} {at p₁ p₂ p : ℕ} where
-  pub line-wrote : (place w w′ : ℕ) (r : Outcome) → w′ ≡ w → Wrote o at (decimal place) o₁ p₁ → Wrote o₁ p₁ (kindText (answerOf w′ r)) o₂ p₂ → Wrote o₂ p₂ lineEnd o′ p
-      → Wrote o at (lineText place (answerOf w r)) o′ p
-  unfolding lineText
-  line-wrote place w w′ r e a b c =
-      wrote-then a (wrote-then (wrote-as (ap (λ (x : ℕ). kindText (answerOf x r)) e) b) c)
-
   pub refused-wrote : (n : ℕ) → Wrote o at refusedBy o₁ p₁ → Wrote o₁ p₁ (decimal n) o₂ p₂ → Wrote o₂ p₂ lineEnd o′ p → Wrote o at (refusedLine n) o′ p
   unfolding refusedLine
   refused-wrote n a b c = wrote-then a (wrote-then b c)

@@ -1,4 +1,5 @@
 // The listing of a track store, as text into lent bytes. Document 01, "Listing program".
+use blocks::Block;
 use octets::get_i16;
 use octets::get8;
 use octets::get16;
@@ -10,21 +11,19 @@ use receiver::Outcome;
 use receiver::Receiver;
 use receiver::Reference;
 use receiver::receive_gap;
-use receiver::receive_point;
 ghost use mathlib.Core.Path.{_≡_};
-ghost use mathlib.Core.Bool.{cond};
+ghost use mathlib.Core.Bool.{true, cond};
 ghost use Prim.Native.Nat.{_+_, _*_, _-_, _/_, _%_, _^_, _≤_, _<_};
 ghost use lib.Dec.{ltb};
 ghost use lib.ListN.{length, drop};
-ghost use Rattle.line.specs.Mode.{width};
 ghost use Rattle.scrambler.specs.Bits.{bits};
 ghost use Rattle.scrambler.specs.Group.{marked};
-ghost use Rattle.receiver.specs.Receiver.{freshReceiver};
-ghost use Rattle.receiver.specs.Outcome.{answerOf, stateOf};
-ghost use Rattle.store.specs.Layout.{rec, points, eventsOf};
+ghost use Rattle.receiver.specs.Receiver.{freshReceiver, lost};
+ghost use Rattle.store.specs.Layout.{rec, points, recordOk, eventsOf};
 ghost use Rattle.store.specs.Store.{events, total, refusal};
-ghost use Rattle.listing.specs.Text.{decimal, glyphs, kindText, lineText, lines, firstLine, refusedLine, text, listNumber, listCount, listResult};
-ghost use Rattle.listing.specs.Wrote.{Wrote, Went};
+ghost use Rattle.listing.specs.Text.{decimal, glyphs, lineText, lines, firstLine, refusedLine, text, listNumber, listCount, listResult};
+ghost use Rattle.listing.specs.Heard.{AllTaken};
+ghost use Rattle.listing.specs.Wrote.{Wrote, Went, byteAnswer, byteLines, numbersIn};
 
 // Bytes enough for the listing of any store.
 pub const LONGEST: usize = 372591;
@@ -95,48 +94,47 @@ fn put_bits(out: &mut [u8], at: usize, w: u8, v: u8, unsettled: u8) -> usize
     at + w as usize
 }
 
-// An answer's kind, and its bits or count; the place behind them.
-fn put_answer(out: &mut [u8], at: usize, w: u8, o: Outcome) -> usize
-    requires { ⌜ (at ≤ 999000) × (w ≤ 4) ⌝ }
-    ensures { λ r. ⌜ Wrote (now (out .entry)) at (kindText (answerOf w o)) (now (out .exit)) r × (r ≤ at + 16) ⌝ }
+// The line of a point from its two bytes in a block, with w bits in a point; the place behind it.
+fn put_point(out: &mut [u8], at: usize, place: u32, w: u8, line: u8, plain: u8) -> usize
+    requires { ⌜ (at ≤ 900000) × (w ≤ 4) ⌝ }
+    ensures { λ r. ⌜ Wrote (now (out .entry)) at (lineText place (byteAnswer w line plain)) (now (out .exit)) r × (r ≤ at + 30) ⌝ }
 {
-    match o {
-        Outcome::Refused(_) => at,
-        Outcome::Referenced(_) => put_text(out, at, b" ref"),
-        Outcome::Bits(g, _) => {
-            let line = put_text(out, at, b" bits ");
-            let space = put_bits(out, line, w, g.line, 0);
-            let plain = put_text(out, space, b" ");
-            put_bits(out, plain, w, g.plain, g.unsettled.0)
-        }
-        Outcome::Gap(n, _) => {
-            let count = put_text(out, at, b" lost ");
-            put_decimal(out, count, n.0)
-        }
-    }
-}
-
-// The state that the next event is heard in.
-fn state_after(s: Receiver, o: Outcome) -> Receiver
-    ensures { λ r. ⌜ r ≡ stateOf s o ⌝ }
-{
-    match o {
-        Outcome::Refused(_) => s,
-        Outcome::Referenced(t) => t,
-        Outcome::Bits(_, t) => t,
-        Outcome::Gap(_, t) => t,
-    }
-}
-
-// The line of an event that state s answered with o; the place behind it.
-fn put_line(out: &mut [u8], at: usize, s: Receiver, o: Outcome) -> usize
-    requires { ⌜ at ≤ 900000 ⌝ }
-    ensures { λ r. ⌜ Wrote (now (out .entry)) at (lineText (s .place .0) (answerOf (width (s .mode)) o)) (now (out .exit)) r ⌝ }
-{
-    let place = s.place.0;
-    let w = line::width_of(s.mode);
     let kind = put_decimal(out, at, place);
-    let end = put_answer(out, kind, w, o);
+    if line == 16 {
+        return put_text(out, kind, b" ref\n");
+    }
+    if line == 17 {
+        return put_text(out, kind, b" lost 1\n");
+    }
+    let first = put_text(out, kind, b" bits ");
+    let space = put_bits(out, first, w, line, 0);
+    let second = put_text(out, space, b" ");
+    let end = put_bits(out, second, w, plain % 16, plain / 16);
+    put_text(out, end, b"\n")
+}
+
+// The lines of points, one interval apart; the place behind them.
+fn put_lines(out: &mut [u8], at: usize, place: u32, w: u8, line: &[u8], plain: &[u8]) -> usize
+    requires { ⌜ (at ≤ 500000) × (w ≤ 4) × (length (now line) ≤ 7) × (length (now plain) ≡ length (now line)) × (place + length (now line) ≤ 4294967295) ⌝ }
+    ensures { λ r. ⌜ Wrote (now (out .entry)) at (byteLines w place (now (line .entry)) (now (plain .entry))) (now (out .exit)) r ⌝ }
+{
+    let mut p = at;
+    let mut k = 0;
+    while k < line.len() {
+        p = put_point(out, p, place + k as u32, w, line[k], plain[k]);
+        k += 1;
+    }
+    p
+}
+
+// The line of a loss of n intervals; the place behind it.
+fn put_lost(out: &mut [u8], at: usize, place: u32, n: u32) -> usize
+    requires { ⌜ at ≤ 500000 ⌝ }
+    ensures { λ r. ⌜ Wrote (now (out .entry)) at (lineText place (lost n)) (now (out .exit)) r ⌝ }
+{
+    let kind = put_decimal(out, at, place);
+    let count = put_text(out, kind, b" lost ");
+    let end = put_decimal(out, count, n);
     put_text(out, end, b"\n")
 }
 
@@ -148,38 +146,56 @@ struct Progress {
     state: Receiver,
 }
 
-// The first n points of a record.
-fn put_points(r: &[u8], n: usize, out: &mut [u8], from: Progress) -> Progress
-    requires { ⌜ (n < 256) × (from .at + length (lines (from .state) (points (drop 4 (now r)) n)) ≤ 500000) ⌝ }
-    ensures { λ p. ⌜ Went (now (out .entry)) (from .at) (from .state) (points (drop 4 (now (r .entry))) n) (now (out .exit)) p ⌝ }
+// The seven places of a record for points, as numbers, re and im in turn.
+fn numbers_of(r: &[u8]) -> [i16; 14]
+    ensures { λ z. ⌜ z ≡ numbersIn (drop 4 (now (r .entry))) 14 ⌝ }
 {
-    let mut at = from.at;
-    let mut s = from.state;
+    let mut numbers = [0i16; 14];
     let mut k = 0;
-    while k < n {
-        let byte = 4 + 4 * k;
-        let o = receive_point(s, get_i16(r, byte), get_i16(r, byte + 2));
-        at = put_line(out, at, s, o);
-        s = state_after(s, o);
+    while k < 14 {
+        numbers[k] = get_i16(r, 4 + 2 * k);
         k += 1;
     }
-    Progress { at, state: s }
+    numbers
 }
 
-// The events of a record.
+// The first n points of a record, taken at once. A refusal is ruled out: an accepted store holds no event that is refused.
+fn put_points(r: &[u8], n: usize, out: &mut [u8], from: Progress) -> Progress
+    requires { ⌜ (1 ≤ n) × (n ≤ 7) × AllTaken (from .state) (points (drop 4 (now r)) n) × (from .at ≤ 500000) ⌝ }
+    ensures { λ p. ⌜ Went (now (out .entry)) (from .at) (from .state) (points (drop 4 (now (r .entry))) n) (now (out .exit)) p ⌝ }
+{
+    let s = from.state;
+    let numbers = numbers_of(r);
+    let mut line = [0u8; 7];
+    let mut plain = [0u8; 7];
+    let m = 2 * n;
+    let b = blocks::receive_points(s, &numbers[..m], &mut line, &mut plain);
+    match b {
+        Block::Refused(_) => from,
+        Block::Taken(t) => {
+            let w = line::width_of(s.mode);
+            let at = put_lines(out, from.at, s.place.0, w, &line[..n], &plain[..n]);
+            Progress { at, state: t }
+        }
+    }
+}
+
+// The events of a record. A loss is answered as a gap: that it is refused is ruled out as well.
 fn put_record(r: &[u8], out: &mut [u8], from: Progress) -> Progress
-    requires { ⌜ from .at + length (lines (from .state) (eventsOf (now r))) ≤ 500000 ⌝ }
+    requires { ⌜ (recordOk (now r) ≡ true) × AllTaken (from .state) (eventsOf (now r)) × (from .at ≤ 500000) ⌝ }
     ensures { λ p. ⌜ Went (now (out .entry)) (from .at) (from .state) (eventsOf (now (r .entry))) (now (out .exit)) p ⌝ }
 {
     if get8(r, 2) == 1 {
         return put_points(r, get8(r, 3), out, from);
     }
     let s = from.state;
-    let o = receive_gap(s, get32(r, 4) as u32);
-    Progress {
-        at: put_line(out, from.at, s, o),
-        state: state_after(s, o),
-    }
+    let n = get32(r, 4) as u32;
+    let o = receive_gap(s, n);
+    let Outcome::Gap(_, t) = o else {
+        return from;
+    };
+    let at = put_lost(out, from.at, s.place.0, n);
+    Progress { at, state: t }
 }
 
 // Record i.
@@ -194,7 +210,7 @@ fn record_at(s: &[u8], i: usize) -> &[u8]
 
 // The events of an accepted store's chain; the place behind them.
 fn put_chain(s: &[u8], out: &mut [u8], at: usize, state: Receiver) -> usize
-    requires { ⌜ (refusal (now s) ≡ 0) × (at + length (lines state (events (now s))) ≤ 500000) ⌝ }
+    requires { ⌜ (refusal (now s) ≡ 0) × AllTaken state (events (now s)) × (at + length (lines state (events (now s))) ≤ 500000) ⌝ }
     ensures { λ r. ⌜ Wrote (now (out .entry)) at (lines state (events (now (s .entry)))) (now (out .exit)) r ⌝ }
 {
     let mut p = Progress { at, state };

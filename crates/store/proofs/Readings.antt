@@ -70,7 +70,11 @@ along-step s k i i′ g nz e =
       ending = sym (ends-step (next s) (count s) (count s - k) (count s - (k + 1)) i m nz (n .0) ∙ ap (ends (next s) (count s) (count s - (k + 1))) (sym e)) ∙ g .ending;
     }
 
-ahead-step : (s : List ℕ) (k i i′ : ℕ) → Along s k i → (i ≡ 0 → ⊥) → i′ ≡ next s i → ahead s k i ≡ i ∷ ahead s (k + 1) i′
+pub ahead-start : (s : List ℕ) (i : ℕ) → i ≡ next s 0 → ahead s 0 i ≡ chain s
+unfolding chain
+ahead-start s i e = ap (λ (m : ℕ). walk (next s) m i) (sub-zero (count s)) ∙ ap (walk (next s) (count s)) e
+
+pub ahead-step : (s : List ℕ) (k i i′ : ℕ) → Along s k i → (i ≡ 0 → ⊥) → i′ ≡ next s i → ahead s k i ≡ i ∷ ahead s (k + 1) i′
 ahead-step s k i i′ g nz e =
     let kt : k < count s = along-in s k i g nz .1 in
     walk-step (next s) (count s - k) (count s - (k + 1)) i (omega arith) nz ∙ ap (λ (x : ℕ). i ∷ walk (next s) (count s - (k + 1)) x) (sym e)
@@ -80,8 +84,8 @@ abbrev pub left : List ℕ → ℕ → ℕ → List Event
 left s k i = gather (λ j. eventsOf (rec s j)) (ahead s k i)
 
 pub left-start : (s : List ℕ) (i : ℕ) → i ≡ next s 0 → left s 0 i ≡ events s
-unfolding events chain
-left-start s i e = ap (gather (λ j. eventsOf (rec s j))) (ap (λ (m : ℕ). walk (next s) m i) (sub-zero (count s)) ∙ ap (walk (next s) (count s)) e)
+unfolding events
+left-start s i e = ap (gather (λ j. eventsOf (rec s j))) (ahead-start s i e)
 
 pub left-step : (s : List ℕ) (k i i′ : ℕ) → Along s k i → (i ≡ 0 → ⊥) → i′ ≡ next s i → left s k i ≡ eventsOf (rec s i) ++ left s (k + 1) i′
 left-step s k i i′ g nz e = ap (gather (λ j. eventsOf (rec s j))) (ahead-step s k i i′ g nz e)

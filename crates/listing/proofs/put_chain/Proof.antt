@@ -5,7 +5,7 @@ use denote.Ref.{now}
 use borrow.Author.Needs.{needs}
 use Rattle.store.specs.Layout.{count}
 use Rattle.store.proofs.Readings.{along-in}
-use Rattle.listing.proofs.Lines.{Listing, listing-start, listing-room, listing-step, listing-end, next-first, next-later}
+use Rattle.listing.proofs.Lines.{Listing, listing-start, listing-here, listing-step, listing-end, next-first, next-later}
 use Rattle.listing.proofs.put_chain.Statement.{statement}
 use Rattle.listing.proofs.put_chain.Tie as tie
 
@@ -19,7 +19,7 @@ get16-requires : tie.Need-get16-requires Inv-loop μ-loop
 get16-requires c κs = tt
 
 loop-holds : tie.Need-loop-holds Inv-loop μ-loop
-loop-holds c = let a = c .before .before .before .args in listing-start _ _ (a .at) (a .state) _ (c .before .before .before .pre .0) (c .get16 .ensures .0 ∙ next-first (now (a .s)))
+loop-holds c = let a = c .before .before .before .args in listing-start _ _ (a .at) (a .state) _ (c .before .before .before .pre .0) (c .before .before .before .pre .1) (c .get16 .ensures .0 ∙ next-first (now (a .s)))
 
 record-at-requires : tie.Need-record-at-requires Inv-loop μ-loop
 record-at-requires c κs =
@@ -31,7 +31,7 @@ put-record-requires : tie.Need-put-record-requires Inv-loop μ-loop
 put-record-requires c κs =
     let l = c .before .before .before .loop in
     let r = c .before .record-at .ensures in
-    rw r (listing-room _ _ _ _ _ _ (l .p) _ _ (l .inv) (c .before .before .loop-test .taken) (c .before .before .before .before .before .before .before .pre .1))
+    rw r (listing-here _ _ _ _ _ (l .p) _ _ (l .inv) (c .before .before .loop-test .taken) _ (c .before .before .before .before .before .before .before .pre .2))
 
 add-k : tie.Need-add-k Inv-loop μ-loop
 add-k c = let g = c .before .before .before .before .before .before .loop .inv .along in omega (arith, g .steps, g .size .most)
@@ -53,7 +53,7 @@ loop-again c =
     let a = c .before .before .before .before .before .before .before .before .before .before .before .args in
     let l = c .before .before .before .before .before .before .before .loop in
     let nz = c .before .before .before .before .before .before .loop-test .taken in
-    listing-step _ _ _ _ _ _ (l .p) _ _ (l .i) _ (l .inv) nz (c .get162 .ensures .0 ∙ next-later (now (a .s)) (l .i) nz) (search needs)
+    listing-step _ _ _ _ _ (l .p) _ (l .i) (l .inv) nz _ _ _ (c .get162 .ensures .0 ∙ next-later (now (a .s)) (l .i) nz) (search needs)
     (rw (c .before .before .before .before .before .record-at .ensures) at (c .before .before .before .put-record .ensures))
 
 same-length : tie.Need-same-length Inv-loop μ-loop

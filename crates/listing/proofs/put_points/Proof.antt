@@ -1,95 +1,96 @@
-use mathlib.Core.Path.{_∙_}
-use mir.Facts.{toZ-ofZ}
-use mir.Syntax.{w16}
-use borrow.Author.Needs.{sfits-of}
-use Prim.Native.Nat.{_≤_, _-_}
+use lib.ListN.{replicate, length-take}
+use mathlib.Core.Path.{refl}
 use native.Mathlib.Omega.{arith}
 use denote.Ref.{now}
-use lib.ListN.{drop}
+use Rattle.line.proofs.ByMode.{width-range}
+use Rattle.listing.proofs.PointTexts.{places, not-refused, points-went}
 use borrow.Author.Needs.{needs}
-use Rattle.store.specs.Layout.{points}
-use Rattle.store.proofs.Readings.{points-next}
-use Rattle.listing.proofs.Lines.{Left, left-all, left-went, left-none, pointsLeft, points-all, points-none, one-point}
 use Rattle.listing.proofs.put_points.Statement.{statement}
 use Rattle.listing.proofs.put_points.Tie as tie
 
-abbrev Inv-loop : tie.InvT-loop
-Inv-loop r n out₀ at₀ s₀ k₀ out at s k = (k ≤ n) × Left out₀ out at₀ at s₀ s (points (drop 4 r) n) (pointsLeft r n k)
+numbers-of-requires : tie.Need-numbers-of-requires
+numbers-of-requires c κs = search needs
 
-abbrev μ-loop : tie.MeasureT-loop
-μ-loop r n out₀ at₀ s₀ k₀ out at s k = n - k
+mul-m : tie.Need-mul-m
+mul-m c = search needs
 
-loop-holds : tie.Need-loop-holds Inv-loop μ-loop
-loop-holds c = let a = c .before .before .before .args in (omega arith, left-all (now (a .out)) (a .from .at) (a .from .state) _ _ (points-all (now (a .r)) (a .n)))
+array-share-prefix-numbers : tie.Need-array-share-prefix-numbers
+array-share-prefix-numbers c = search needs
 
-mul-byte : tie.Need-mul-byte Inv-loop μ-loop
-mul-byte c = omega arith
+slice-aggregate-receive-points : tie.Need-slice-aggregate-receive-points
+slice-aggregate-receive-points c = simp length-take (search needs)
 
-add-byte : tie.Need-add-byte Inv-loop μ-loop
-add-byte c = omega arith
+slice-aggregate-receive-points-2 : tie.Need-slice-aggregate-receive-points-2
+slice-aggregate-receive-points-2 c = search needs
 
-get-i16-requires : tie.Need-get-i16-requires Inv-loop μ-loop
-get-i16-requires c κs = tt
+slice-aggregate-receive-points-3 : tie.Need-slice-aggregate-receive-points-3
+slice-aggregate-receive-points-3 c = search needs
 
-add-get-i16 : tie.Need-add-get-i16 Inv-loop μ-loop
-add-get-i16 c = omega arith
+receive-points-requires : tie.Need-receive-points-requires
+receive-points-requires c κs = search needs
 
-get-i16-requires-2 : tie.Need-get-i16-requires-2 Inv-loop μ-loop
-get-i16-requires-2 c κs = tt
+enum-told : tie.Need-enum-told
+enum-told c = search needs
 
-receive-point-requires : tie.Need-receive-point-requires Inv-loop μ-loop
-receive-point-requires c κs = tt
+enum-known-b : tie.Need-enum-known-b
+enum-known-b c = search needs
 
-put-line-requires : tie.Need-put-line-requires Inv-loop μ-loop
-put-line-requires c κs = omega (arith, c .before .before .before .before .before .loop .inv .1 .behind, c .before .before .before .before .before .before .before .before .before .pre .1)
+width-of-requires : tie.Need-width-of-requires
+width-of-requires c κs = search needs
 
-state-after-requires : tie.Need-state-after-requires Inv-loop μ-loop
-state-after-requires c κs = tt
+array-share-prefix-line : tie.Need-array-share-prefix-line
+array-share-prefix-line c = search needs
 
-add-k : tie.Need-add-k Inv-loop μ-loop
-add-k c = omega arith
+slice-aggregate-put-lines : tie.Need-slice-aggregate-put-lines
+slice-aggregate-put-lines c = simp length-take (search needs)
 
-loop-less : tie.Need-loop-less Inv-loop μ-loop
-loop-less c = omega arith
+array-share-prefix-plain : tie.Need-array-share-prefix-plain
+array-share-prefix-plain c = search needs
 
-loop-again : tie.Need-loop-again Inv-loop μ-loop
-loop-again c =
-    let a = c .before .before .before .before .before .before .before .before .before .before .before .before .before .args in
-    let l = c .before .before .before .before .before .before .before .before .before .loop in
-    let h = c .before .before .before .before .before .before .before .before .loop-test .taken in
-    let x = c .before .before .before .before .before .before .before .get-i16 in
-    let y = c .before .before .before .before .before .before .get-i162 in (
-      omega arith,
-      left-went (now (a .out)) (l .out) _ (a .from .at) (l .at) (a .from .state) (l .s) _ _ _ _ _ (l .inv .1) (points-next (now (a .r)) (a .n) (l .k) h) (search needs)
-          (one-point (now (a .r)) (l .k) _ _ (l .s) _ _ (toZ-ofZ (sfits-of {w = w16} (x .ok)) ∙ x .ensures) (toZ-ofZ (sfits-of {w = w16} (y .ok)) ∙ y .ensures) (c .before .before .before .before .before .receive-point .ensures .1) (c .state-after .ensures) (c .before .before .before .put-line .ensures)),
-    )
+slice-aggregate-put-lines-2 : tie.Need-slice-aggregate-put-lines-2
+slice-aggregate-put-lines-2 c = simp length-take (search needs)
 
-same-length : tie.Need-same-length Inv-loop μ-loop
+put-lines-requires : tie.Need-put-lines-requires
+put-lines-requires c κs =
+    let a = c .before .before .before .before .before .before .before .before .before .before .before .before .before .before .before .before .before .args in
+    let h = c .before .before .before .before .before .before .before .before .before .before .before .before .before .before .before .before .before .pre in
+    let p = places (now (a .r)) (a .n) (a .from .state) _ (c .before .before .before .before .before .before .before .before .before .before .before .before .before .numbers-of .ensures) (h .0) (h .1) (h .2) in
+    simp length-take (omega (arith, c .before .before .before .width-of .ensures, width-range (a .from .state .mode)))
+
+returns : tie.Need-returns
+returns c =
+    let a = c .before .before .before .before .before .before .before .before .before .before .before .before .args in
+    let h = c .before .before .before .before .before .before .before .before .before .before .before .before .pre in
+    absurd (not-refused (now (a .r)) (a .n) (a .from .state) _ (c .before .before .before .before .before .before .before .before .numbers-of .ensures) (h .0) (h .1) (h .2) (replicate 7 0) (replicate 7 0) refl refl _ _ (c .before .before .before .before .receive-points .ensures .0 .0) (c .enum-told .given .1))
+
+same-length : tie.Need-same-length
 same-length c = search needs
 
-returns : tie.Need-returns Inv-loop μ-loop
-returns c =
-    let a = c .before .before .before .before .before .args in
-    let l = c .before .loop in
-    left-none _ _ _ _ _ _ _ _ (l .inv .1) (points-none (now (a .r)) (a .n) (l .k) (c .loop-test .left))
+returns-2 : tie.Need-returns-2
+returns-2 c =
+    let a = c .before .before .before .before .before .before .before .before .before .before .before .before .before .before .before .before .before .before .before .before .args in
+    let h = c .before .before .before .before .before .before .before .before .before .before .before .before .before .before .before .before .before .before .before .before .pre in
+    points-went (now (a .r)) (a .n) (a .from .state) _ (c .before .before .before .before .before .before .before .before .before .before .before .before .before .before .before .before .numbers-of .ensures) (h .0) (h .1) (h .2) _ _ refl refl _ _ _ _ _ (c .before .before .before .before .before .before .before .before .before .before .before .before .receive-points .ensures .0 .1) (c .before .before .before .before .before .before .before .before .before .before .before .before .receive-points .ensures .0 .2) (c .before .before .before .before .before .before .before .before .before .before .before .before .receive-points .ensures .0 .0) (c .before .before .before .before .before .before .before .before .b .given .1) (c .before .before .before .before .before .before .width-of .ensures) (c .before .before .put-lines .ensures)
 
 pub put-points-spec : {M : Type 1} → statement M
 put-points-spec =
     tie.close
     (tie.spec
-    Inv-loop
-    μ-loop
-    loop-holds
-    mul-byte
-    add-byte
-    get-i16-requires
-    add-get-i16
-    get-i16-requires-2
-    receive-point-requires
-    put-line-requires
-    state-after-requires
-    add-k
-    loop-less
-    loop-again
+    numbers-of-requires
+    mul-m
+    array-share-prefix-numbers
+    slice-aggregate-receive-points
+    slice-aggregate-receive-points-2
+    slice-aggregate-receive-points-3
+    receive-points-requires
+    enum-told
+    enum-known-b
+    width-of-requires
+    array-share-prefix-line
+    slice-aggregate-put-lines
+    array-share-prefix-plain
+    slice-aggregate-put-lines-2
+    put-lines-requires
+    returns
     same-length
-    returns)
+    returns-2)

@@ -1,5 +1,6 @@
+use native.Mathlib.Omega.{arith}
 use denote.Ref.{now}
-use Rattle.listing.proofs.Texts.{track-room, track-wrote}
+use Rattle.listing.proofs.Texts.{track-free, track-room, track-wrote}
 use borrow.Author.Needs.{needs}
 use Rattle.listing.proofs.put_track.Statement.{statement}
 use Rattle.listing.proofs.put_track.Tie as tie
@@ -25,7 +26,8 @@ fresh-state-requires c κs = tt
 put-chain-requires : tie.Need-put-chain-requires
 put-chain-requires c κs =
     let a = c .before .before .before .before .before .before .before .before .before .before .args in
-    (c .before .before .before .before .before .before .before .before .before .before .pre .0, track-room (now (a .s)) _ _ (a .sum) _ (c .before .before .before .before .before .before .before .before .before .before .pre .0) (c .before .before .before .before .before .before .before .get8 .ensures .0) (c .before .before .before .before .before .before .get82 .ensures .0) (c .before .before .before .before .before .before .before .before .before .before .pre .1) (c .fresh-state .ensures) _ (c .before .before .before .before .put-first .ensures .behind))
+    let h = c .before .before .before .before .before .before .before .before .before .before .pre in
+    (h .0, track-free (now (a .s)) _ _ (a .sum) _ (h .0) (c .before .before .before .before .before .before .before .get8 .ensures .0) (c .before .before .before .before .before .before .get82 .ensures .0) (h .1) (c .fresh-state .ensures) (omega arith), track-room (now (a .s)) _ _ (a .sum) _ (h .0) (c .before .before .before .before .before .before .before .get8 .ensures .0) (c .before .before .before .before .before .before .get82 .ensures .0) (h .1) (c .fresh-state .ensures) _ (c .before .before .before .before .put-first .ensures .behind))
 
 same-length : tie.Need-same-length
 same-length c = search needs

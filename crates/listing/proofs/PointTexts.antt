@@ -1,0 +1,230 @@
+-- The points of a record, taken by one block: its numbers are the points, and its bytes are their lines. Assumes nothing.
+use mathlib.Core.Path.{_≡_, refl, sym, ap, ap₂, _∙_, subst}
+use mathlib.Core.List.{List, [], _∷_, _++_, map}
+use Prim.Native.Nat.{ℕ, zero, suc, _+_, _*_, _-_, _/_, _%_, _≤_, _<_}
+use native.Mathlib.Omega.{arith}
+use borrow.Author.Tests.{ne-eqb, eq-eqb, le-leb}
+use lib.Dec.{T, eqb}
+use lib.IntN.{ℤ}
+use lib.ListN.{length, getD, set, take, drop, drop-of-length-le}
+use lib.Seq.{sets, sets-eq, take-at, drop-cons, drop-drop}
+use Rattle.line.specs.declared.Point.{Point}
+use Rattle.line.specs.Table.{entry}
+use Rattle.line.specs.Mode.{width, quadrant, face}
+use Rattle.line.specs.Point.{at, pairs}
+use Rattle.line.specs.Refusal.{accepted}
+use Rattle.line.proofs.ByMode.{by-all}
+use Rattle.line.proofs.TableLaws.{row-below}
+use Rattle.line.proofs.PointLaws.{pairs-length}
+use Rattle.octets.specs.Number.{u16, i16, signed}
+use Rattle.octets.proofs.Numbers.{u16-drop}
+use Rattle.octets.proofs.Sets.{sets-whole}
+use Rattle.deciding.specs.declared.Decision.{Decision}
+use Rattle.deciding.specs.declared.Decision.the-variants.{State, Origin, NoSector}
+use Rattle.deciding.specs.Decide.{decide}
+use Rattle.deciding.proofs.SectorLaws.{never-no-sector}
+use Rattle.coding.specs.Code.{changes4, changes8, changes16, eighths, turnRow, group}
+use Rattle.scrambler.specs.Bits.{bits}
+use Rattle.scrambler.specs.Group.{descrambled, marked}
+use Rattle.scrambler.proofs.GroupLaws.{descrambled-small}
+use Rattle.receiver.specs.declared.Reference.{Reference}
+use Rattle.receiver.specs.declared.Reference.the-variants.{Nothing as none, State as some}
+use Rattle.receiver.specs.declared.Receiver.{Receiver}
+use Rattle.receiver.specs.declared.Outcome.{Outcome}
+use Rattle.receiver.specs.declared.Outcome.the-variants.{Refused}
+use Rattle.receiver.specs.Receiver.{Answer, decoded, stateRefusal, inSector, answer, next}
+use Rattle.receiver.specs.Receiver.{point as hears, refusal as refused}
+use Rattle.receiver.specs.Outcome.{answerOf, groupOf, stateOutcome, pointOutcome, eventOutcome, outcome}
+use Rattle.receiver.specs.Calls.{after}
+use Rattle.receiver.proofs.OutcomeLaws.{told}
+use Rattle.receiver.proofs.CallLaws.{no-refusal, accepted-valid, same-next}
+use Rattle.blocks.specs.declared.Block.{Block}
+use Rattle.blocks.specs.declared.Block.the-variants.{Refused as NotTaken, Taken}
+use Rattle.blocks.specs.Block.{lineByte, plainByte, outcomes, EachAccepted, lentOk, blockRefusal, block, lineBytes, plainBytes}
+use Rattle.blocks.proofs.BlockLaws.{has-place, each-has-place, at-once}
+use Rattle.store.specs.Layout.{Event, point, points}
+use Rattle.listing.specs.Text.{lineText, lines, through}
+use Rattle.listing.specs.Heard.{AllTaken}
+use Rattle.listing.specs.Wrote.{Wrote, Went, numbersIn, byteAnswer, byteLines}
+use Rattle.listing.proofs.Writes.{wrote-as}
+use Rattle.listing.proofs.Heards.{in-sector, placed}
+
+-- ---- the numbers of a record
+numbers-long : (bs : List ℕ) (n : ℕ) → length (numbersIn bs n) ≡ n
+unfolding numbersIn
+numbers-long bs zero = refl
+numbers-long bs (suc n) = ap suc (numbers-long (drop 2 bs) n)
+
+numbers-first : (bs : List ℕ) (m n : ℕ) → m ≤ n → take m (numbersIn bs n) ≡ numbersIn bs m
+unfolding numbersIn
+numbers-first bs zero n h = refl
+numbers-first bs (suc m) zero h = absurd (omega arith)
+numbers-first bs (suc m) (suc n) h = ap (λ (zs : List ℤ). i16 bs 0 ∷ zs) (numbers-first (drop 2 bs) m n (omega arith))
+
+numbers-points : (bs : List ℕ) (n : ℕ) → points bs n ≡ map point (pairs (numbersIn bs (2 * n)))
+unfolding numbersIn
+numbers-points bs zero = refl
+numbers-points bs (suc n) =
+    ap₂ (λ (z : ℤ) (es : List Event). point (at (i16 bs 0) z) ∷ es) (ap signed (sym (u16-drop bs 2 0)))
+    (numbers-points (drop 4 bs) n ∙ ap (λ (l : List ℕ). map point (pairs (numbersIn l (2 * n)))) (sym (drop-drop 2 2 bs)))
+    ∙ ap (λ (m : ℕ). map point (pairs (numbersIn bs m))) (let e : suc (suc (2 * n)) ≡ 2 * suc n = omega arith in e)
+
+-- read one by one: those that are left after k of them
+abbrev pub numbersLeft : List ℕ → ℕ → List ℤ
+numbersLeft r k = numbersIn (drop (4 + 2 * k) r) (14 - k)
+
+pub numbers-start : (r : List ℕ) (zs : List ℤ) → length zs ≡ 14 → sets zs 0 (numbersLeft r 0) ≡ numbersIn (drop 4 r) 14
+numbers-start r zs e = sets-whole (numbersIn (drop 4 r) 14) zs (numbers-long (drop 4 r) 14 ∙ sym e)
+
+pub numbers-again : (r : List ℕ) (zs all : List ℤ) (k : ℕ) (x : ℤ) → k < 14 → x ≡ i16 r (4 + 2 * k) → sets zs k (numbersLeft r k) ≡ all
+    → sets (set zs k x) (k + 1) (numbersLeft r (k + 1)) ≡ all
+unfolding numbersIn
+numbers-again r zs all k x h e g =
+    ap₂ (λ (y : ℤ) (n : ℕ). sets (set zs k y) n (numbersLeft r (k + 1))) (e ∙ ap signed (sym (u16-drop r (4 + 2 * k) 0 ∙ ap (u16 r) (let q : 4 + 2 * k + 0 ≡ 4 + 2 * k = omega arith in q)))) (let q : k + 1 ≡ suc k = omega arith in q)
+    ∙ ap (λ (l : List ℕ). sets (set zs k (i16 (drop (4 + 2 * k) r) 0)) (suc k) (numbersIn l (14 - (k + 1)))) (ap (λ (n : ℕ). drop n r) (let q : 4 + 2 * (k + 1) ≡ 4 + 2 * k + 2 = omega arith in q) ∙ sym (drop-drop 2 (4 + 2 * k) r))
+    ∙ ap (λ (n : ℕ). sets zs k (numbersIn (drop (4 + 2 * k) r) n)) (let q : suc (14 - (k + 1)) ≡ 14 - k = omega arith in q) ∙ g
+
+pub numbers-end : (r : List ℕ) (zs all : List ℤ) (k : ℕ) → 14 ≤ k → sets zs k (numbersLeft r k) ≡ all → zs ≡ all
+unfolding numbersIn
+numbers-end r zs all k h g = ap (λ (n : ℕ). sets zs k (numbersIn (drop (4 + 2 * k) r) n)) (let q : 0 ≡ 14 - k = omega arith in q) ∙ g
+
+-- ---- the lines of bytes, one by one
+abbrev pub linesLeft : ℕ → ℕ → List ℕ → List ℕ → ℕ → List ℕ
+linesLeft w place ls ps k = byteLines w (place + k) (drop k ls) (drop k ps)
+
+pub lines-again : (w place : ℕ) (ls ps : List ℕ) (k : ℕ) → k < length ls → length ps ≡ length ls
+    → linesLeft w place ls ps k ≡ lineText (place + k) (byteAnswer w (getD ls k 0) (getD ps k 0)) ++ linesLeft w place ls ps (k + 1)
+lines-again w place ls ps k h e =
+    ap₂ (byteLines w (place + k)) (drop-cons ls k 0 h) (drop-cons ps k 0 (omega arith))
+    ∙ ap₂ (λ (m n : ℕ). lineText (place + k) (byteAnswer w (getD ls k 0) (getD ps k 0)) ++ byteLines w m (drop n ls) (drop n ps)) (let q : place + k + 1 ≡ place + (k + 1) = omega arith in q) (let q : suc k ≡ k + 1 = omega arith in q)
+
+pub lines-end : (w place : ℕ) (ls ps : List ℕ) (k : ℕ) → length ls ≤ k → linesLeft w place ls ps k ≡ []
+lines-end w place ls ps k h = ap (λ (l : List ℕ). byteLines w (place + k) l (drop k ps)) (drop-of-length-le ls h)
+
+-- ---- what a point's two bytes say
+group-small : (m q y : ℕ) → group m q y < 16
+unfolding group turnRow
+group-small m q y =
+    let a = row-below (λ g. eqb (entry changes4 g) (eighths q y / 2)) 0 3 in
+    let b = row-below (λ g. eqb (entry changes8 g) (eighths q y)) 0 7 in
+    let c = row-below (λ g. eqb (entry changes16 (4 * g + quadrant q)) (quadrant y)) 0 3 in
+    let d = row-below (λ g. eqb (entry changes16 (4 * g + q % 4)) (quadrant y)) 0 3 in
+    by-all (λ (g : ℕ). g < 16) _ _ _ _ (omega arith) (omega arith) (omega arith) (omega arith) m
+
+module _ (s : Receiver) where
+  abbrev Says : Outcome → Type 0
+  Says o = byteAnswer (width (s .mode)) (lineByte o) (plainByte o) ≡ answerOf (width (s .mode)) o
+
+  state-says : (o : Reference) (y : ℕ) → Says (stateOutcome s o y)
+  unfolding byteAnswer stateOutcome groupOf
+  state-says none y = refl
+  state-says (some x) y =
+      let g : ℕ = group (s .mode) (face (s .mode) x) y in
+      let d = descrambled (s .mode) (s .role) (s .line) g in
+      let h = group-small (s .mode) (face (s .mode) x) y in
+      let l = descrambled-small (s .mode) (s .role) (s .line) g in
+      rw (ne-eqb g 16 (λ e. omega arith), ne-eqb g 17 (λ e. omega arith))
+      (ap₂ (λ (i j : ℕ). decoded (bits (width (s .mode)) g) (marked i (bits (width (s .mode)) j)))
+      (let q : (16 * d .unsettled .0 + d .plain) / 16 ≡ d .unsettled .0 = omega arith in q) (let q : (16 * d .unsettled .0 + d .plain) % 16 ≡ d .plain = omega arith in q))
+
+  point-says : (d : Decision) → T (inSector d) → Says (pointOutcome s d)
+  unfolding byteAnswer pointOutcome
+  point-says (State y) t = state-says (s .reference) y
+  point-says Origin t = refl
+  point-says NoSector t = absurd t
+
+  byte-answer : (p : Point) → refused s (hears p) ≡ 0 → byteAnswer (width (s .mode)) (lineByte (outcome s (hears p))) (plainByte (outcome s (hears p))) ≡ answer s (hears p)
+  unfolding outcome eventOutcome
+  byte-answer p z =
+      subst Says (ap (λ (n : ℕ). accepted n (pointOutcome s (decide (s .mode) p)) (Refused n)) (sym z)) (point-says (decide (s .mode) p) (in-sector (decide (s .mode) p) (never-no-sector (s .mode) p)))
+      ∙ told s (hears p) .answer-is
+
+bytes-lines : (s : Receiver) (ps : List Point) → EachAccepted s ps
+    → byteLines (width (s .mode)) (s .place .0) (map lineByte (outcomes s ps)) (map plainByte (outcomes s ps)) ≡ lines s (map point ps)
+bytes-lines s [] f = refl
+bytes-lines s (p ∷ ps) f =
+    let t : Receiver = next s (hears p) in
+    ap₂ (λ (a : Answer) (l : List ℕ). lineText (s .place .0) a ++ l) (byte-answer s p (f .0))
+    (ap₂ (λ (w place : ℕ). byteLines w place (map lineByte (outcomes t ps)) (map plainByte (outcomes t ps))) (ap width (sym (same-next s (hears p) .0))) (sym (placed s (hears p) (f .0)))
+    ∙ bytes-lines t ps (f .1))
+
+-- ---- the block
+each-taken : (s : Receiver) (ps : List Point) → AllTaken s (map point ps) → EachAccepted s ps
+each-taken s [] a = tt
+each-taken s (p ∷ ps) a = (a .0, each-taken (next s (hears p)) ps (a .1))
+
+after-through : (s : Receiver) (ps : List Point) → after s (map hears ps) ≡ through s (map point ps)
+after-through s [] = refl
+after-through s (p ∷ ps) = after-through (next s (hears p)) ps
+
+outcomes-long : (f : Outcome → ℕ) (s : Receiver) (ps : List Point) → length (map f (outcomes s ps)) ≡ length ps
+outcomes-long f s [] = refl
+outcomes-long f s (p ∷ ps) = ap suc (outcomes-long f (next s (hears p)) ps)
+
+first-passes : (s : Receiver) (ps : List Point) → 1 ≤ length ps → EachAccepted s ps → (stateRefusal s ≡ 0) × (s .place .0 ≤ 4294967295)
+first-passes s [] h f = absurd (omega arith)
+first-passes s (p ∷ ps) h f = (no-refusal s (accepted-valid s (hears p) (f .0)), omega (arith, has-place s p (f .0)))
+
+module _ (r : List ℕ) (n : ℕ) (s : Receiver) (numbers : List ℤ) (e : numbers ≡ numbersIn (drop 4 r) 14) (some : 1 ≤ n) (few : n ≤ 7) (free : AllTaken s (points (drop 4 r) n)) where
+  abbrev zs : List ℤ
+  zs = take (2 * n) numbers
+
+  zs-are : zs ≡ numbersIn (drop 4 r) (2 * n)
+  zs-are = ap (take (2 * n)) e ∙ numbers-first (drop 4 r) (2 * n) 14 (omega arith)
+
+  points-are : points (drop 4 r) n ≡ map point (pairs zs)
+  points-are = numbers-points (drop 4 r) n ∙ ap (λ (l : List ℤ). map point (pairs l)) (sym zs-are)
+
+  zs-long : length zs ≡ 2 * n
+  zs-long = ap length zs-are ∙ numbers-long (drop 4 r) (2 * n)
+
+  pairs-long : length (pairs zs) ≡ n
+  pairs-long = let l = zs-long in pairs-length zs ∙ (let q : length zs / 2 ≡ n = omega arith in q)
+
+  each-accepted : EachAccepted s (pairs zs)
+  each-accepted = each-taken s (pairs zs) (subst (AllTaken s) points-are free)
+
+  passes : (stateRefusal s ≡ 0) × (s .place .0 ≤ 4294967295)
+  passes = first-passes s (pairs zs) (omega (arith, pairs-long)) each-accepted
+
+  pub places : s .place .0 + n ≤ 4294967295
+  places = omega (arith, each-has-place s (pairs zs) (passes .1) each-accepted, pairs-long)
+
+  -- the bytes of an accepted block, as many as there are points
+  first-bytes : (f : Outcome → ℕ) (l l′ : List ℕ) (k : ℕ) → length l ≡ 7 → k ≡ 0 → l′ ≡ accepted k (sets l 0 (map f (outcomes s (pairs zs)))) l
+      → take n l′ ≡ map f (outcomes s (pairs zs))
+  first-bytes f l l′ k el z h =
+      let vs : List ℕ = map f (outcomes s (pairs zs)) in
+      let long : length vs ≡ n = outcomes-long f s (pairs zs) ∙ pairs-long in
+      ap (take n) (h ∙ ap (λ (i : ℕ). accepted i (sets l 0 vs) l) z ∙ sets-eq vs l 0 (omega arith)) ∙ take-at vs _ n long
+
+  module _ (l p : List ℕ) (el : length l ≡ 7) (ep : length p ≡ 7) where
+    free-block : blockRefusal s zs (length l) (length p) ≡ 0
+    unfolding lentOk
+    free-block =
+        let k = pairs-long in
+        at-once s zs (length l) (length p) (passes .0) (passes .1)
+        (rw (eq-eqb (length zs % 2) 0 (omega (arith, zs-long)), le-leb (length (pairs zs)) (length l) (omega arith), le-leb (length (pairs zs)) (length p) (omega arith)) tt) each-accepted
+
+    is-taken : block s zs (length l) (length p) ≡ Taken (after s (map hears (pairs zs)))
+    unfolding block
+    is-taken = ap (λ (k : ℕ). accepted k (Taken (after s (map hears (pairs zs)))) (NotTaken k)) free-block
+
+    pub not-refused : (b : Block) (k : ℕ) → b ≡ block s zs (length l) (length p) → b ≡ NotTaken k → ⊥
+    not-refused b k e h = let t = is-taken in let z : _≡_ {A = ℕ} 0 1 = cc in omega arith
+
+    pub points-went : {out out′ : List ℕ} {at q : ℕ} (l′ p′ : List ℕ) (b : Block) (t : Receiver) (w : ℕ) → l′ ≡ lineBytes s zs l (length p) → p′ ≡ plainBytes s zs (length l) p
+        → b ≡ block s zs (length l) (length p) → b ≡ Taken t → w ≡ width (s .mode) → Wrote out at (byteLines w (s .place .0) (take n l′) (take n p′)) out′ q
+        → Went out at s (points (drop 4 r) n) out′ (record { at = q; state = t })
+    unfolding lineBytes plainBytes
+    points-went {out} {out′} {at} {q} l′ p′ b t w fl fp eb et ew a =
+        let taken = is-taken in
+        let state : t ≡ after s (map hears (pairs zs)) = cc in
+        rw points-are
+        (record {
+          wrote = wrote-as
+              (ap (λ (v : ℕ). byteLines v (s .place .0) (take n l′) (take n p′)) ew
+              ∙ ap₂ (byteLines (width (s .mode)) (s .place .0)) (first-bytes lineByte l l′ _ el free-block fl) (first-bytes plainByte p p′ _ ep free-block fp)
+              ∙ bytes-lines s (pairs zs) each-accepted) a;
+          state = state ∙ after-through s (pairs zs);
+        })
