@@ -7,12 +7,12 @@ use native.Mathlib.Omega.{arith}
 use borrow.Author.Tests.{le-leb, lt-leb, leb-true}
 use lib.Dec.{T, eqb, leb, eqb→eq}
 use lib.IntN.{ℤ, pos}
-use lib.ListN.{length, getD, set, drop}
+use lib.ListN.{length, getD, set, drop, length-drop}
 use lib.Seq.{sets}
 use Rattle.line.specs.declared.Point.{Point}
 use Rattle.deciding.specs.declared.Decision.{Decision}
 use Rattle.deciding.specs.declared.Decision.the-variants.{State, Origin, NoSector}
-use Rattle.line.specs.Mode.{face}
+use Rattle.line.specs.Mode.{face, regLen}
 use Rattle.line.specs.Point.{at, pairs, coordinateIn, inRange, coordinatesIn, isOrigin}
 use Rattle.deciding.specs.Decide.{decide}
 use Rattle.deciding.specs.Sizes.{ringOf, ringIndex}
@@ -27,9 +27,9 @@ use Rattle.deciding.proofs.SectorLaws.{never-no-sector}
 use Rattle.deciding.proofs.RingLaws.{looked-up, origin-none}
 use Rattle.scrambler.specs.declared.Register.{Register}
 use Rattle.scrambler.specs.declared.Descrambled.{Descrambled}
-use Rattle.scrambler.specs.Register.{fresh}
+use Rattle.scrambler.specs.Register.{register, fresh}
 use Rattle.scrambler.specs.Group.{descrambled}
-use Rattle.scrambler.proofs.GroupLaws.{descrambled-small}
+use Rattle.scrambler.proofs.GroupLaws.{descrambled-small, after-full}
 use Rattle.receiver.specs.declared.Reference.{Reference}
 use Rattle.receiver.specs.declared.Reference.the-variants.{Nothing as none, State as some}
 use Rattle.receiver.specs.declared.Receiver.{Receiver}
@@ -42,6 +42,7 @@ use Rattle.receiver.proofs.CallLaws.{handed-back-passes, same-next}
 use Rattle.blocks.specs.declared.Block.{Block}
 use Rattle.blocks.specs.declared.Block.the-variants.{Refused as NotTaken, Taken}
 use Rattle.blocks.specs.declared.Step.{Step}
+use Rattle.blocks.specs.Hearing.{left, Hearing, settledAt}
 use Rattle.blocks.specs.Block.{lineByte, plainByte, outcomes, EachAccepted, each, lentOk, blockRefusal, numberOf, stateOf, Told, block, lineBytes, plainBytes, step}
 
 -- ONE POINT
@@ -301,46 +302,52 @@ module _ (s : Receiver) (zs : List ℤ) (l p : List ℕ) where
 
 -- THE PASS THAT READS
 
--- after the points before number k: what is left to take is all that is left to do
-pub record Hearing (s : Receiver) (line plain : List ℕ) (zs : List ℤ) (t : Receiver) (l p : List ℕ) (k : ℕ) : Type 0 where
-  pub place : k ≤ length zs / 2
-  pub mode-stays : t .mode ≡ s .mode
-  pub line-long : length l ≡ length line
-  pub plain-long : length p ≡ length plain
-  pub free : EachAccepted t (pairs (drop (2 * k) zs))
-  pub state-left : after t (map point (pairs (drop (2 * k) zs))) ≡ after s (map point (pairs zs))
-  pub line-left : sets l k (map lineByte (outcomes t (pairs (drop (2 * k) zs)))) ≡ sets line 0 (map lineByte (outcomes s (pairs zs)))
-  pub plain-left : sets p k (map plainByte (outcomes t (pairs (drop (2 * k) zs)))) ≡ sets plain 0 (map plainByte (outcomes s (pairs zs)))
+pub hearing-start : (s : Receiver) (line plain : List ℕ) (zs : List ℤ) (j : ℕ) → j ≤ length zs / 2 → EachAccepted s (left zs j) → Hearing s line plain zs j s line plain j
+hearing-start s line plain zs j i f =
+    record { on = omega arith; place = i; mode-stays = refl; line-long = refl; plain-long = refl; free = f; state-left = refl; line-left = refl; plain-left = refl }
 
-pub hearing-start : (s : Receiver) (line plain : List ℕ) (zs : List ℤ) → EachAccepted s (pairs zs) → Hearing s line plain zs s line plain 0
-hearing-start s line plain zs f =
-    record { place = omega arith; mode-stays = refl; line-long = refl; plain-long = refl; free = f; state-left = refl; line-left = refl; plain-left = refl }
+pub hearing-then : {s t u : Receiver} {line plain l p l′ p′ : List ℕ} {zs : List ℤ} {j k m : ℕ} → Hearing s line plain zs j t l p k → Hearing t l p zs k u l′ p′ m
+    → Hearing s line plain zs j u l′ p′ m
+hearing-then a b =
+    record {
+      on = omega (arith, a .on, b .on);
+      place = b .place;
+      mode-stays = b .mode-stays ∙ a .mode-stays;
+      line-long = b .line-long ∙ a .line-long;
+      plain-long = b .plain-long ∙ a .plain-long;
+      free = b .free;
+      state-left = b .state-left ∙ a .state-left;
+      line-left = b .line-left ∙ a .line-left;
+      plain-left = b .plain-left ∙ a .plain-left;
+    }
 
-module _ (s : Receiver) (line plain : List ℕ) (zs : List ℤ) (t : Receiver) (l p : List ℕ) (k : ℕ) (h : Hearing s line plain zs t l p k) where
+module _ (s : Receiver) (line plain : List ℕ) (zs : List ℤ) (j : ℕ) (t : Receiver) (l p : List ℕ) (k : ℕ) (h : Hearing s line plain zs j t l p k) where
   abbrev here : Point
   here = at (getD zs (2 * k) (pos 0)) (getD zs (2 * k + 1) (pos 0))
 
-  abbrev rest : List Point
-  rest = pairs (drop (2 * (k + 1)) zs)
-
-  -- the ring and the rows of the first state serve
+  -- the ring and the rows of the first state serve, and what is left can be done from here
   pub hearing-tables : (ring rows : List ℕ) → ring ≡ ringOf (s .mode) → Rows (s .mode) rows → (ring ≡ ringOf (t .mode)) × Rows (t .mode) rows
   hearing-tables ring rows e r = (e ∙ ap ringOf (sym (h .mode-stays)), subst (λ (m : ℕ). Rows m rows) (sym (h .mode-stays)) r)
 
+  pub hearing-here : Hearing t l p zs k t l p k
+  hearing-here = hearing-start t l p zs k (h .place) (h .free)
+
   module _ (i : k < length zs / 2) where
-    now-here : pairs (drop (2 * k) zs) ≡ here ∷ rest
+    now-here : left zs k ≡ here ∷ left zs (k + 1)
     now-here = pairs-step zs (2 * k) (omega arith) ∙ ap (λ (n : ℕ). here ∷ pairs (drop n zs)) (let e : 2 * k + 2 ≡ 2 * (k + 1) = omega arith in e)
 
     pub hearing-free : refusal t (point here) ≡ 0
     hearing-free = subst (EachAccepted t) now-here (h .free) .0
 
     pub hearing-step : (r : Step) (l′ p′ : List ℕ) → r ≡ step (outcome t (point here)) (next t (point here)) → l′ ≡ set l k (r .line) → p′ ≡ set p k (r .plain)
-        → length l′ ≡ length line → length p′ ≡ length plain → Hearing s line plain zs (r .next) l′ p′ (k + 1)
+        → length l′ ≡ length line → length p′ ≡ length plain → Hearing s line plain zs j (r .next) l′ p′ (k + 1)
     hearing-step r l′ p′ e el ep nl np =
         let q = now-here in
+        let rest : List Point = left zs (k + 1) in
         let f = subst (EachAccepted t) q (h .free) in
         let u : r .next ≡ next t (point here) = ap (λ (x : Step). x .next) e in
         record {
+          on = omega (arith, h .on);
           place = omega arith;
           mode-stays = ap (λ (v : Receiver). v .mode) u ∙ same-next t (point here) .0 ∙ h .mode-stays;
           line-long = nl;
@@ -355,10 +362,62 @@ module _ (s : Receiver) (line plain : List ℕ) (zs : List ℤ) (t : Receiver) (
               ∙ ap (λ (ps : List Point). sets p k (map plainByte (outcomes t ps))) (sym q) ∙ h .plain-left;
         }
 
-  pub hearing-end : length zs / 2 ≤ k → (t ≡ after s (map point (pairs zs))) × (l ≡ sets line 0 (map lineByte (outcomes s (pairs zs)))) × (p ≡ sets plain 0 (map plainByte (outcomes s (pairs zs))))
+  pub hearing-end : length zs / 2 ≤ k → (t ≡ after s (map point (left zs j))) × (l ≡ sets line j (map lineByte (outcomes s (left zs j)))) × (p ≡ sets plain j (map plainByte (outcomes s (left zs j))))
   hearing-end i =
-      let q : pairs (drop (2 * k) zs) ≡ [] = pairs-end zs (2 * k) (omega arith) in (
+      let q : left zs k ≡ [] = pairs-end zs (2 * k) (omega arith) in (
         ap (λ (ps : List Point). after t (map point ps)) (sym q) ∙ h .state-left,
         ap (λ (ps : List Point). sets l k (map lineByte (outcomes t ps))) (sym q) ∙ h .line-left,
         ap (λ (ps : List Point). sets p k (map plainByte (outcomes t ps))) (sym q) ∙ h .plain-left,
       )
+
+-- WHERE ALL DATA BITS ARE SETTLED
+
+-- a receiver with a reference and a full register
+pub is-settled : (s : Receiver) (x full held : ℕ) → s .reference ≡ some x → full ≡ regLen (s .mode) → held ≡ full → held ≡ s .line .held .0 → s ≡ settledAt s x (s .line .bits) 0
+is-settled s x full held er ef eh el =
+    let h : s .line .held .0 ≡ regLen (s .mode) = sym el ∙ eh ∙ ef in
+    let e : s .place .0 ≡ s .place .0 + 0 = omega arith in
+    λ i. receiver (s .mode) (s .role) (er i) (register (s .line .bits) (h i)) (e i)
+
+-- one point more: the step is the receiver's, and the register stays full
+module _ (s : Receiver) (x n i : ℕ) (re im : ℤ) where
+  abbrev now-at : Receiver
+  now-at = settledAt s x n i
+
+  pub settled-step : (ring rows : List ℕ) (origin : Bool) (y g : ℕ) (d : Descrambled) → refusal now-at (point (at re im)) ≡ 0 → origin ≡ isOrigin (at re im) → origin ≡ false
+      → ring ≡ ringOf (s .mode) → Rows (s .mode) rows → y ≡ getD ring (ringIndex (s .mode) re im) 0 → g ≡ withRow (s .mode) (getD rows (rowIndex (s .mode) x y) 0) y
+      → d ≡ descrambled (s .mode) (s .role) (register n (regLen (s .mode))) g
+      → _≡_ {A = Step} (record { line = g; plain = d .plain; next = settledAt s y (d .next .bits) (i + 1) }) (step (outcome now-at (point (at re im))) (next now-at (point (at re im))))
+  settled-step ring rows origin y g d z eo off er rs ey eg ed =
+      let full = after-full (s .mode) (s .role) n g in
+      let u : d .unsettled .0 ≡ 0 = ap (λ (c : Descrambled). c .unsettled .0) ed ∙ full .0 in
+      let held : regLen (s .mode) ≡ d .next .held .0 = sym (ap (λ (c : Descrambled). c .next .held .0) ed ∙ full .1) in
+      let plain : d .plain ≡ 16 * d .unsettled .0 + d .plain = omega arith in
+      let place : s .place .0 + (i + 1) ≡ s .place .0 + i + 1 = omega arith in
+      let later : Receiver = receiver (s .mode) (s .role) (some y) (d .next) (s .place .0 + i + 1) in
+      let same : settledAt s y (d .next .bits) (i + 1) ≡ later = λ k. receiver (s .mode) (s .role) (some y) (register (d .next .bits) (held k)) (place k) in
+      hear-state now-at re im z origin eo ring y _ off er ey
+      ((λ k. record { line = g; plain = plain k; next = same k }) ∙ take-bits now-at later y (some x) x g d rows refl rs eg ed refl)
+
+pub settled-start : (s : Receiver) (line plain : List ℕ) (zs : List ℤ) (j x : ℕ) → s ≡ settledAt s x (s .line .bits) 0 → Hearing s line plain zs j s line plain j
+    → Hearing s line plain zs j (settledAt s x (s .line .bits) (j - j)) line plain j
+settled-start s line plain zs j x e h =
+    subst (λ (t : Receiver). Hearing s line plain zs j t line plain j) (e ∙ ap (settledAt s x (s .line .bits)) (let z : 0 ≡ j - j = omega arith in z)) h
+
+-- the place where they end is in range
+pub settled-room : (s t : Receiver) (line plain l p : List ℕ) (zs : List ℤ) (j k : ℕ) → s .place .0 ≤ 4294967295 → EachAccepted s (left zs j) → Hearing s line plain zs j t l p k → s .place .0 + (k - j) ≤ 4294967295
+settled-room s t line plain l p zs j k r f h =
+    omega (arith, each-has-place s (left zs j) r f, pairs-length (drop (2 * j) zs), length-drop (2 * j) zs, h .on, h .place)
+
+pub settled-again : (s : Receiver) (line plain l p l′ p′ : List ℕ) (zs : List ℤ) (j k x n : ℕ) → Hearing s line plain zs j (settledAt s x n (k - j)) l p k → k < length zs / 2
+    → (re im : ℤ) → re ≡ getD zs (2 * k) (pos 0) → im ≡ getD zs (2 * k + 1) (pos 0) → (ring rows : List ℕ) (origin : Bool) (y g : ℕ) (d : Descrambled)
+    → ring ≡ ringOf (s .mode) → Rows (s .mode) rows → origin ≡ isOrigin (at re im) → origin ≡ false → y ≡ getD ring (ringIndex (s .mode) re im) 0
+    → g ≡ withRow (s .mode) (getD rows (rowIndex (s .mode) x y) 0) y → d ≡ descrambled (s .mode) (s .role) (register n (regLen (s .mode))) g
+    → l′ ≡ set l k g → p′ ≡ set p k (d .plain) → length l′ ≡ length line → length p′ ≡ length plain
+    → Hearing s line plain zs j (settledAt s y (d .next .bits) (k + 1 - j)) l′ p′ (k + 1)
+settled-again s line plain l p l′ p′ zs j k x n h i re im ere eim ring rows origin y g d er rs eo off ey eg ed el ep nl np =
+    let t : Receiver = settledAt s x n (k - j) in
+    let e = settled-step s x n (k - j) (getD zs (2 * k) (pos 0)) (getD zs (2 * k + 1) (pos 0)) ring rows origin y g d (hearing-free s line plain zs j t l p k h i) (rw (ere, eim) at eo) off er rs
+    (rw (ere, eim) at ey) eg ed in
+    subst (λ (m : ℕ). Hearing s line plain zs j (settledAt s y (d .next .bits) m) l′ p′ (k + 1)) (let z : k - j + 1 ≡ k + 1 - j = omega (arith, h .on) in z)
+    (hearing-step s line plain zs j t l p k h i _ l′ p′ e el ep nl np)

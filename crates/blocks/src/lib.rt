@@ -10,10 +10,12 @@ ghost use Rattle.coding.specs.Rows.{Rows};
 ghost use Rattle.receiver.specs.Receiver.{receiver, point, refusal, stateNext, forgotten, next};
 ghost use Rattle.receiver.specs.Outcome.{stateOutcome, gapOutcome, outcome};
 ghost use Rattle.receiver.specs.Calls.{after};
+ghost use Rattle.blocks.specs.Hearing.{Hearing, settledAt};
 ghost use Rattle.blocks.specs.Block.{lineByte, plainByte, outcomes, EachAccepted, blockRefusal, Told, block, lineBytes, plainBytes, step};
 use receiver::Intervals;
 use receiver::Receiver;
 use receiver::Reference;
+use scrambler::BitCount;
 use scrambler::Register;
 
 // The state after all points, or the number that refuses them.
@@ -61,7 +63,7 @@ fn take(rows: &[u8; 16], s: Receiver, y: u8) -> Step
         }
         Reference::State(x) => {
             let line = coding::group_by(s.mode, rows, x, y);
-            let d = scrambler::descramble_next(s.mode, s.role, h, line);
+            let d = scrambler::descramble_group(s.mode, s.role, h, line);
             let after = d.next;
             let plain = 16 * d.unsettled.0 + d.plain;
             let next = moved(s, Reference::State(y), after);
@@ -95,7 +97,100 @@ fn hear(ring: &[u8; 16], rows: &[u8; 16], s: Receiver, re: i16, im: i16) -> Step
     take(rows, s, deciding::state_at(s.mode, ring, re, im))
 }
 
-// Points that nothing refuses. Every caller that takes many points comes through this loop, so that what it calls has one caller.
+// A point of a block, and the state before it.
+struct Run {
+    at: usize,
+    state: Receiver,
+}
+
+fn settled(s: Receiver, x: u8, bits: u32, i: usize) -> Receiver
+    requires { ⌜ s .place .0 + i ≤ 4294967295 ⌝ }
+    ensures { λ r. ⌜ r ≡ settledAt s x bits i ⌝ }
+{
+    Receiver {
+        mode: s.mode,
+        role: s.role,
+        reference: Reference::State(x),
+        line: Register {
+            bits,
+            held: BitCount(line::length_of(s.mode)),
+        },
+        place: Intervals(s.place.0 + i as u32),
+    }
+}
+
+// Points that nothing refuses, from point `from` up to an origin or the end, after a reference and a full register: all data bits
+// are settled, and nothing but the reference and the register's bits changes. Nearly all points of all callers come through this
+// loop, so that what it calls has one caller and is put in line.
+fn hear_settled(
+    ring: &[u8; 16],
+    rows: &[u8; 16],
+    s: Receiver,
+    reference: u8,
+    points: &[i16],
+    line: &mut [u8],
+    plain: &mut [u8],
+    from: usize,
+) -> Run
+    requires { ⌜ (now ring ≡ ringOf (s .mode)) × Rows (s .mode) (now rows) × (s ≡ settledAt s reference (s .line .bits) 0) × Hearing s (now line) (now plain) (now points) from s (now line) (now plain) from
+        × (length (now points) / 2 ≤ length (now line)) × (length (now points) / 2 ≤ length (now plain)) ⌝ }
+    ensures { λ r. ⌜ Hearing s (now (line .entry)) (now (plain .entry)) (now (points .entry)) from (r .state) (now (line .exit)) (now (plain .exit)) (r .at) ⌝ }
+{
+    let n = points.len() / 2;
+    let mut x = reference;
+    let mut bits = s.line.bits;
+    let mut k = from;
+    while k < n {
+        let re = points[2 * k];
+        let im = points[2 * k + 1];
+        if deciding::is_origin(re, im) {
+            return Run {
+                at: k,
+                state: settled(s, x, bits, k - from),
+            };
+        }
+        let y = deciding::state_at(s.mode, ring, re, im);
+        let group = coding::group_by(s.mode, rows, x, y);
+        let d = scrambler::descramble_next(s.mode, s.role, bits, group);
+        line[k] = group;
+        plain[k] = d.plain;
+        bits = d.next.bits;
+        x = y;
+        k += 1;
+    }
+    Run {
+        at: k,
+        state: settled(s, x, bits, k - from),
+    }
+}
+
+// The same where the data bits are settled; else no point.
+fn hear_on(
+    ring: &[u8; 16],
+    rows: &[u8; 16],
+    s: Receiver,
+    points: &[i16],
+    line: &mut [u8],
+    plain: &mut [u8],
+    from: usize,
+) -> Run
+    requires { ⌜ (now ring ≡ ringOf (s .mode)) × Rows (s .mode) (now rows) × Hearing s (now line) (now plain) (now points) from s (now line) (now plain) from
+        × (length (now points) / 2 ≤ length (now line)) × (length (now points) / 2 ≤ length (now plain)) ⌝ }
+    ensures { λ r. ⌜ Hearing s (now (line .entry)) (now (plain .entry)) (now (points .entry)) from (r .state) (now (line .exit)) (now (plain .exit)) (r .at) ⌝ }
+{
+    let reference = s.reference;
+    match reference {
+        Reference::Nothing => Run { at: from, state: s },
+        Reference::State(x) => {
+            if s.line.held.0 == line::length_of(s.mode) {
+                return hear_settled(ring, rows, s, x, points, line, plain, from);
+            }
+            Run { at: from, state: s }
+        }
+    }
+}
+
+// Points that nothing refuses: one, then those after it whose data bits are settled, and so on.
 fn hear_all(s: Receiver, points: &[i16], line: &mut [u8], plain: &mut [u8]) -> Receiver
     requires { ⌜ EachAccepted s (pairs (now points)) × (length (now points) / 2 ≤ length (now line)) × (length (now points) / 2 ≤ length (now plain)) ⌝ }
     ensures { λ r. ⌜ (r ≡ after s (map point (pairs (now (points .entry)))))
@@ -112,8 +207,10 @@ fn hear_all(s: Receiver, points: &[i16], line: &mut [u8], plain: &mut [u8]) -> R
         line[k] = h.line;
         plain[k] = h.plain;
         let next = h.next;
-        t = next;
-        k += 1;
+        let r = hear_on(&ring, &rows, next, points, line, plain, k + 1);
+        let state = r.state;
+        t = state;
+        k = r.at;
     }
     t
 }

@@ -160,8 +160,7 @@ pub fn rows_of(mode: u8) -> [u8; 16]
     rows
 }
 
-// The group by the rows of its mode, which the law `looked-up` asks for. It has one caller, the loop over a block's points: a large
-// function is put in line only there, and then what depends on the mode alone moves out of the loop.
+// The group by the rows of its mode, which the law `looked-up` asks for.
 pub fn group_by(mode: u8, rows: &[u8; 16], reference: u8, s: u8) -> u8
     ensures { λ r. ⌜ r ≡ withRow mode (getD (now (rows .entry)) (rowIndex mode reference s) 0) s ⌝ }
 {

@@ -229,11 +229,19 @@ pub all-small : (m role n g w all : ℕ) → w ≡ width m → all ≡ mixedAtOn
 all-small m role n g w all ew ea = subst⁻¹ (λ (k : ℕ). all < 2 ^ k) ew (subst⁻¹ (λ (x : ℕ). x < 2 ^ width m) ea (mixed-small m role n g))
 
 -- a group after a full register
-pub full-law : (m role g : ℕ) (h : Register) (w full low size next plain : ℕ) → w ≡ width m → full ≡ regLen m → full ≤ h .held .0 → low ≡ g % 2 ^ width m
-    → size ≡ 2 ^ w → next ≡ (h .bits * size + low) % 2 ^ regLen m → plain ≡ mixedAtOnce m role (h .bits) g
-    → _≡_ {A = Descrambled} (record { plain = plain; unsettled = record { 0 = 0 }; next = register next full }) (descrambled m role h g)
-full-law m role g h w full low size next plain ew ef l el es en ep =
-    let small : plain < 2 ^ (w - 0) = subst⁻¹ (λ (k : ℕ). plain < 2 ^ k) (sub-zero w) (all-small m role (h .bits) g w plain ew ep) in
-    let u : 0 ≡ min (full - h .held .0) w = omega arith in
-    let k : full ≡ min (h .held .0 + w) full = omega arith in
-    descramble-law m role h g w full 0 plain plain (register next full) ew ef u ep (sym (mod-eq-of-lt small)) (push-law m h g w full low size next full ew ef el es en k)
+module _ (m role n g : ℕ) where
+  pub full-law : (w full low size next plain : ℕ) → w ≡ width m → full ≡ regLen m → low ≡ g % 2 ^ width m → size ≡ 2 ^ w → next ≡ (n * size + low) % 2 ^ regLen m
+      → plain ≡ mixedAtOnce m role n g
+      → _≡_ {A = Descrambled} (record { plain = plain; unsettled = record { 0 = 0 }; next = register next full }) (descrambled m role (register n (regLen m)) g)
+  full-law w full low size next plain ew ef el es en ep =
+      let h : Register = register n (regLen m) in
+      let small : plain < 2 ^ (w - 0) = subst⁻¹ (λ (k : ℕ). plain < 2 ^ k) (sub-zero w) (all-small m role n g w plain ew ep) in
+      let u : 0 ≡ min (full - regLen m) w = omega arith in
+      let k : full ≡ min (regLen m + w) full = omega arith in
+      descramble-law m role h g w full 0 plain plain (register next full) ew ef u ep (sym (mod-eq-of-lt small)) (push-law m h g w full low size next full ew ef el es en k)
+
+  -- its data bits are settled, and the register stays full
+  pub after-full : (descrambled m role (register n (regLen m)) g .unsettled .0 ≡ 0) × (descrambled m role (register n (regLen m)) g .next .held .0 ≡ regLen m)
+  after-full =
+      let e = full-law (width m) (regLen m) _ _ _ _ refl refl refl refl refl refl in
+      (sym (ap (λ (d : Descrambled). d .unsettled .0) e), sym (ap (λ (d : Descrambled). d .next .held .0) e))

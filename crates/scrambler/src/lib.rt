@@ -3,7 +3,7 @@ ghost use mathlib.Core.Path.{_≡_};
 ghost use Prim.Native.Nat.{ℕ, _-_, _^_, _%_, _≤_, _<_, min};
 ghost use Rattle.line.specs.Mode.{width, regLen};
 ghost use Rattle.scrambler.specs.Bits.{bits, value};
-ghost use Rattle.scrambler.specs.Register.{fresh, nearTap, pushes, registerOk};
+ghost use Rattle.scrambler.specs.Register.{register, fresh, nearTap, pushes, registerOk};
 ghost use Rattle.scrambler.specs.Group.{scrambled, descrambled};
 ghost use Rattle.scrambler.specs.Windows.{mixedAtOnce};
 
@@ -198,32 +198,19 @@ pub fn descramble_group(mode: u8, role: u8, h: Register, line: u8) -> Descramble
     }
 }
 
-// The same for a point of many: a full register, as nearly all points find it, needs no count. It has one caller, the loop over a
-// block's points, and `descramble_group` another, so that each is put in line there.
-pub fn descramble_next(mode: u8, role: u8, h: Register, line: u8) -> Descrambled
-    ensures { λ r. ⌜ r ≡ descrambled mode role h line ⌝ }
+// The same after a full register of bits n, as nearly all points of a block find it: nothing is counted. It has one caller, the loop
+// over such points: a large function is put in line only there.
+pub fn descramble_next(mode: u8, role: u8, n: u32, line: u8) -> Descrambled
+    ensures { λ r. ⌜ r ≡ descrambled mode role (register n (regLen mode)) line ⌝ }
 {
-    let n = h.bits;
-    let held = h.held.0;
-    let w = line::width_of(mode);
-    let full = line::length_of(mode);
-    let all = mixed(mode, role, n, line);
-    if held < full {
-        let u = unsettled_bits(w, full, held);
-        return Descrambled {
-            plain: without_first(w, u, all),
-            unsettled: BitCount(u),
-            next: push_group(mode, h, line),
-        };
-    }
     let low = low_bits(mode, line as u32) as u64;
-    let bits = keep_bits(mode, (n as u64) * group_size(w) + low);
+    let bits = keep_bits(mode, (n as u64) * group_size(line::width_of(mode)) + low);
     Descrambled {
-        plain: all,
+        plain: mixed(mode, role, n, line),
         unsettled: BitCount(0),
         next: Register {
             bits,
-            held: BitCount(full),
+            held: BitCount(line::length_of(mode)),
         },
     }
 }

@@ -1,15 +1,16 @@
-use borrow.Author.Needs.{needs}
 use mir.Facts.{toZ-ofZ}
 use mir.Syntax.{w16}
-use borrow.Author.Needs.{sfits-of}
+use borrow.Author.Needs.{needs, sfits-of}
 use mathlib.Core.Path.{refl}
+use native.Mathlib.Omega.{arith}
 use Prim.Native.Nat.{_-_}
-use Rattle.blocks.proofs.BlockLaws.{Hearing, hearing-start, hearing-tables, hearing-free, hearing-step, hearing-end}
+use Rattle.blocks.specs.Hearing.{Hearing}
+use Rattle.blocks.proofs.BlockLaws.{hearing-start, hearing-then, hearing-tables, hearing-here, hearing-free, hearing-step, hearing-end}
 use Rattle.blocks.proofs.hear_all.Statement.{statement}
 use Rattle.blocks.proofs.hear_all.Tie as tie
 
 abbrev Inv-loop : tie.InvT-loop
-Inv-loop points line₀ plain₀ n ring rows t₀ k₀ line plain t k = Hearing t₀ line₀ plain₀ points t line plain k
+Inv-loop points line₀ plain₀ n ring rows t₀ k₀ line plain t k = Hearing t₀ line₀ plain₀ points 0 t line plain k
 
 abbrev μ-loop : tie.MeasureT-loop
 μ-loop points line₀ plain₀ n ring rows t₀ k₀ line plain t k = n - k
@@ -21,7 +22,7 @@ rows-of-requires : tie.Need-rows-of-requires Inv-loop μ-loop
 rows-of-requires c κs = search needs
 
 loop-holds : tie.Need-loop-holds Inv-loop μ-loop
-loop-holds c = hearing-start _ _ _ _ (c .before .before .before .before .pre .0)
+loop-holds c = hearing-start _ _ _ _ 0 (omega arith) (c .before .before .before .before .pre .0)
 
 mul-hear : tie.Need-mul-hear Inv-loop μ-loop
 mul-hear c = search needs
@@ -47,9 +48,9 @@ shared-slice-copy-out-hear-2 c = search needs
 hear-requires : tie.Need-hear-requires Inv-loop μ-loop
 hear-requires c κs =
     let l = c .before .before .before .before .before .loop in
-    let t = hearing-tables _ _ _ _ (l .t) (l .line) (l .plain) (l .k) (l .inv) _ _ (c .before .before .before .before .before .before .before .ring-of .ensures) (c .before .before .before .before .before .before .rows-of .ensures) in
+    let t = hearing-tables _ _ _ _ 0 (l .t) (l .line) (l .plain) (l .k) (l .inv) _ _ (c .before .before .before .before .before .before .before .ring-of .ensures) (c .before .before .before .before .before .before .rows-of .ensures) in
     rw (toZ-ofZ (sfits-of {w = w16} (c .before .hear-arg .given)), toZ-ofZ (sfits-of {w = w16} (c .hear-arg2 .given)))
-    (t .0, t .1, hearing-free _ _ _ _ (l .t) (l .line) (l .plain) (l .k) (l .inv) (c .before .before .before .before .loop-test .taken))
+    (t .0, t .1, hearing-free _ _ _ _ 0 (l .t) (l .line) (l .plain) (l .k) (l .inv) (c .before .before .before .before .loop-test .taken))
 
 slice-write-line : tie.Need-slice-write-line Inv-loop μ-loop
 slice-write-line c = search needs
@@ -57,17 +58,26 @@ slice-write-line c = search needs
 slice-write-plain : tie.Need-slice-write-plain Inv-loop μ-loop
 slice-write-plain c = search needs
 
-add-k : tie.Need-add-k Inv-loop μ-loop
-add-k c = search needs
+add-hear-on : tie.Need-add-hear-on Inv-loop μ-loop
+add-hear-on c = search needs
+
+hear-on-requires : tie.Need-hear-on-requires Inv-loop μ-loop
+hear-on-requires c κs =
+    let l = c .before .before .before .before .before .before .before .before .before .before .before .loop in
+    let e = rw (toZ-ofZ (sfits-of {w = w16} (c .before .before .before .before .before .before .before .hear-arg .given)), toZ-ofZ (sfits-of {w = w16} (c .before .before .before .before .before .before .hear-arg2 .given))) at (c .before .before .before .before .before .hear .ensures) in
+    let h = hearing-step _ _ _ _ 0 (l .t) (l .line) (l .plain) (l .k) (l .inv) (c .before .before .before .before .before .before .before .before .before .before .loop-test .taken) _ _ _ e refl refl (search needs) (search needs) in
+    let t = hearing-tables _ _ _ _ 0 _ _ _ _ h _ _ (c .before .before .before .before .before .before .before .before .before .before .before .before .before .ring-of .ensures) (c .before .before .before .before .before .before .before .before .before .before .before .before .rows-of .ensures) in
+    (t .0, t .1, hearing-here _ _ _ _ 0 _ _ _ _ h, search needs, search needs)
 
 loop-less : tie.Need-loop-less Inv-loop μ-loop
-loop-less c = search needs
+loop-less c = let r = c .before .before .before .before .before .hear-on .ensures in omega (arith, r .on, r .place, c .before .before .before .before .before .before .before .before .before .before .before .before .before .before .before .before .loop-test .taken)
 
 loop-again : tie.Need-loop-again Inv-loop μ-loop
 loop-again c =
-    let l = c .before .before .before .before .before .before .before .loop in
-    let e = rw (toZ-ofZ (sfits-of {w = w16} (c .before .before .before .hear-arg .given)), toZ-ofZ (sfits-of {w = w16} (c .before .before .hear-arg2 .given))) at (c .before .hear .ensures) in
-    hearing-step _ _ _ _ (l .t) (l .line) (l .plain) (l .k) (l .inv) (c .before .before .before .before .before .before .loop-test .taken) _ _ _ e refl refl (search needs) (search needs)
+    let l = c .before .before .before .before .before .before .before .before .before .before .before .before .before .before .before .before .before .loop in
+    let e = rw (toZ-ofZ (sfits-of {w = w16} (c .before .before .before .before .before .before .before .before .before .before .before .before .before .hear-arg .given)), toZ-ofZ (sfits-of {w = w16} (c .before .before .before .before .before .before .before .before .before .before .before .before .hear-arg2 .given))) at (c .before .before .before .before .before .before .before .before .before .before .before .hear .ensures) in
+    let h = hearing-step _ _ _ _ 0 (l .t) (l .line) (l .plain) (l .k) (l .inv) (c .before .before .before .before .before .before .before .before .before .before .before .before .before .before .before .before .loop-test .taken) _ _ _ e refl refl (search needs) (search needs) in
+    hearing-then h (c .before .before .before .before .before .hear-on .ensures)
 
 same-length : tie.Need-same-length Inv-loop μ-loop
 same-length c = search needs
@@ -76,7 +86,7 @@ same-length-2 : tie.Need-same-length-2 Inv-loop μ-loop
 same-length-2 c = search needs
 
 returns : tie.Need-returns Inv-loop μ-loop
-returns c = hearing-end _ _ _ _ (c .before .loop .t) (c .before .loop .line) (c .before .loop .plain) (c .before .loop .k) (c .before .loop .inv) (c .loop-test .left)
+returns c = hearing-end _ _ _ _ 0 (c .before .loop .t) (c .before .loop .line) (c .before .loop .plain) (c .before .loop .k) (c .before .loop .inv) (c .loop-test .left)
 
 pub hear-all-spec : {M : Type 1} → statement M
 hear-all-spec =
@@ -97,7 +107,8 @@ hear-all-spec =
     hear-requires
     slice-write-line
     slice-write-plain
-    add-k
+    add-hear-on
+    hear-on-requires
     loop-less
     loop-again
     same-length
