@@ -5,7 +5,7 @@ use Prim.Native.Nat.{ℕ, zero, suc, _+_, _*_, _-_, _/_, _%_, _<_, _≤_}
 use native.Mathlib.Omega.{arith}
 use native.Mathlib.Decide.{decLt}
 use lib.Dec.{eqb}
-use lib.ListN.{length, getD, set}
+use lib.ListN.{length, getD, set, replicate}
 use lib.Seq.{getD-set-same, getD-set-other}
 use Rattle.line.specs.Table.{entry, firstRow}
 use Rattle.line.specs.Mode.{face, quadrant}
@@ -69,7 +69,12 @@ pub index-small : (m x s : ℕ) → rowIndex m x s < 16
 unfolding rowIndex eighths quadrant
 index-small m x s = by-all (λ (i : ℕ). i < 16) _ _ _ _ (omega arith) (omega arith) (omega arith) (omega arith) m
 
--- one more row
+-- the first row in every place, and one more
+pub first-filled : (m v : ℕ) → v ≡ rowAt m 0 → (j : ℕ) → j < 1 → getD (replicate 16 v) j 0 ≡ rowAt m j
+first-filled m v e j h =
+    let z : j ≡ 0 = omega arith in
+    ap (λ (n : ℕ). getD (replicate 16 v) n 0) z ∙ e ∙ ap (rowAt m) (sym z)
+
 pub filled : (m i v : ℕ) (rows : List ℕ) → length rows ≡ 16 → i < 16 → ((j : ℕ) → j < i → getD rows j 0 ≡ rowAt m j) → v ≡ rowAt m i
     → (j : ℕ) → j < i + 1 → getD (set rows i v) j 0 ≡ rowAt m j
 filled m i v rows l h f e j k = go (decLt j i)

@@ -147,12 +147,13 @@ fn with_row(mode: u8, row: u8, s: u8) -> u8
     if mode <= 3 { row } else { row % 16 + s % 4 }
 }
 
-// All rows of a mode, found once for a caller that looks up many.
+// All rows of a mode, found once for a caller that looks up many. The first is found apart: with two calls of `row_at` the loop is
+// unrolled before they are put in line, and the rows come out as constants of the mode.
 pub fn rows_of(mode: u8) -> [u8; 16]
     ensures { λ r. ⌜ Rows mode r ⌝ }
 {
-    let mut rows = [0u8; 16];
-    let mut i = 0;
+    let mut rows = [row_at(mode, 0); 16];
+    let mut i = 1;
     while i < 16 {
         rows[i] = row_at(mode, i);
         i += 1;
