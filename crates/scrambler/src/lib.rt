@@ -157,10 +157,8 @@ pub fn scramble_group(mode: u8, role: u8, h: Register, plain: u8) -> Scrambled
 fn unsettled_bits(w: u8, full: u8, held: u8) -> u8
     ensures { λ r. ⌜ r ≡ min (full - held) w ⌝ }
 {
-    if full <= held {
-        return 0;
-    }
-    if w <= full - held { w } else { full - held }
+    let missing = if full <= held { 0 } else { full - held };
+    if w <= missing { w } else { missing }
 }
 
 // A group without its first u bits.
