@@ -103,6 +103,7 @@ struct Run {
     state: Receiver,
 }
 
+// The receiver i intervals after s, with the reference x and a full register.
 fn settled(s: Receiver, x: u8, bits: u32, i: usize) -> Receiver
     requires { ⌜ s .place .0 + i ≤ 4294967295 ⌝ }
     ensures { λ r. ⌜ r ≡ settledAt s x bits i ⌝ }

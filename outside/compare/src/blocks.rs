@@ -16,6 +16,12 @@ use crate::{ours, points, receiving};
 const UNWRITTEN: u8 = 0xa5;
 const SEED: u64 = 4;
 
+/// How many points a block has: few mostly, now and then many.
+fn random_count(rng: &mut Rng) -> usize {
+    let most = if rng.below(50) == 0 { 2_000 } else { 40 };
+    rng.below(most) as usize
+}
+
 /// The numbers of a block's points: now and then one out of range, or one
 /// number too many.
 fn random_numbers(rng: &mut Rng, mode: &Mode, count: usize) -> Vec<i16> {
@@ -67,7 +73,7 @@ fn single_calls(
 
 /// Runs one block on all sides; gives the state after it.
 fn run(tally: &mut Tally, rng: &mut Rng, mode: &Mode, before: [u8; STATE]) -> [u8; STATE] {
-    let count = rng.below(40) as usize;
+    let count = random_count(rng);
     let numbers = random_numbers(rng, mode, count);
     let room = |rng: &mut Rng| match rng.below(30) {
         0 => count.saturating_sub(1),
