@@ -33,6 +33,7 @@ use Rattle.scrambler.proofs.GroupLaws.{descrambled-small, after-full}
 use Rattle.receiver.specs.declared.Reference.{Reference}
 use Rattle.receiver.specs.declared.Reference.the-variants.{Nothing as none, State as some}
 use Rattle.receiver.specs.declared.Receiver.{Receiver}
+use Rattle.receiver.specs.declared.Outcome.{Outcome}
 use Rattle.receiver.specs.declared.Outcome.the-variants.{Refused}
 use Rattle.receiver.specs.Receiver.{receiver, Event, point, stateRefusal, inSector, hasRoom, eventRefusal, refusal, placeAfter, forgotten, stateLine, stateNext, pointNext, eventNext, next, answer}
 use Rattle.receiver.specs.Outcome.{groupOf, stateOutcome, gapOutcome, pointOutcome, eventOutcome, outcome}
@@ -321,6 +322,14 @@ hearing-then a b =
       plain-left = b .plain-left ∙ a .plain-left;
     }
 
+-- one byte more of line bits, or of data bits
+bytes-step : (f : Outcome → ℕ) (t v : Receiver) (p : Point) (ps rest : List Point) (l l′ all : List ℕ) (k x : ℕ) → v ≡ next t (point p) → ps ≡ p ∷ rest → l′ ≡ set l k x
+    → x ≡ f (outcome t (point p)) → sets l k (map f (outcomes t ps)) ≡ all → sets l′ (k + 1) (map f (outcomes v rest)) ≡ all
+bytes-step f t v p ps rest l l′ all k x u q el ex h =
+    ap₂ (λ (w : Receiver) (m : List ℕ). sets m (k + 1) (map f (outcomes w rest))) u (el ∙ ap (set l k) ex)
+    ∙ ap (λ (n : ℕ). sets (set l k (f (outcome t (point p)))) n (map f (outcomes (next t (point p)) rest))) (let z : k + 1 ≡ suc k = omega arith in z)
+    ∙ ap (λ (qs : List Point). sets l k (map f (outcomes t qs))) (sym q) ∙ h
+
 module _ (s : Receiver) (line plain : List ℕ) (zs : List ℤ) (j : ℕ) (t : Receiver) (l p : List ℕ) (k : ℕ) (h : Hearing s line plain zs j t l p k) where
   abbrev here : Point
   here = at (getD zs (2 * k) (pos 0)) (getD zs (2 * k + 1) (pos 0))
@@ -354,12 +363,8 @@ module _ (s : Receiver) (line plain : List ℕ) (zs : List ℤ) (j : ℕ) (t : R
           plain-long = np;
           free = subst (λ (v : Receiver). EachAccepted v rest) (sym u) (f .1);
           state-left = ap (λ (v : Receiver). after v (map point rest)) u ∙ ap (λ (ps : List Point). after t (map point ps)) (sym q) ∙ h .state-left;
-          line-left = ap₂ (λ (v : Receiver) (m : List ℕ). sets m (k + 1) (map lineByte (outcomes v rest))) u (el ∙ ap (λ (x : Step). set l k (x .line)) e)
-              ∙ ap (λ (n : ℕ). sets (set l k (lineByte (outcome t (point here)))) n (map lineByte (outcomes (next t (point here)) rest))) (let z : k + 1 ≡ suc k = omega arith in z)
-              ∙ ap (λ (ps : List Point). sets l k (map lineByte (outcomes t ps))) (sym q) ∙ h .line-left;
-          plain-left = ap₂ (λ (v : Receiver) (m : List ℕ). sets m (k + 1) (map plainByte (outcomes v rest))) u (ep ∙ ap (λ (x : Step). set p k (x .plain)) e)
-              ∙ ap (λ (n : ℕ). sets (set p k (plainByte (outcome t (point here)))) n (map plainByte (outcomes (next t (point here)) rest))) (let z : k + 1 ≡ suc k = omega arith in z)
-              ∙ ap (λ (ps : List Point). sets p k (map plainByte (outcomes t ps))) (sym q) ∙ h .plain-left;
+          line-left = bytes-step lineByte t (r .next) here (left zs k) rest l l′ _ k (r .line) u q el (ap (λ (x : Step). x .line) e) (h .line-left);
+          plain-left = bytes-step plainByte t (r .next) here (left zs k) rest p p′ _ k (r .plain) u q ep (ap (λ (x : Step). x .plain) e) (h .plain-left);
         }
 
   pub hearing-end : length zs / 2 ≤ k → (t ≡ after s (map point (left zs j))) × (l ≡ sets line j (map lineByte (outcomes s (left zs j)))) × (p ≡ sets plain j (map plainByte (outcomes s (left zs j))))

@@ -122,7 +122,7 @@ fn settled(s: Receiver, x: u8, bits: u32, i: usize) -> Receiver
 
 // Points that nothing refuses, from point `from` up to an origin or the end, after a reference and a full register: all data bits
 // are settled, and nothing but the reference and the register's bits changes. Nearly all points of all callers come through this
-// loop, so that what it calls has one caller and is put in line.
+// loop; all that it calls is put in line.
 fn hear_settled(
     ring: &[u8; 16],
     rows: &[u8; 16],

@@ -123,8 +123,7 @@ arc-in : (m k a b : ℕ) → k < 4 → decidedArc m (arc k (suc a) (suc b)) ≡ 
 unfolding decidedArc farOf ringOf state1 state3 state4 outerSize arcState
 arc-in zero k a b l =
     ap State (ap (λ (n : ℕ). (k + n) % 4 * 2) (not-past (suc a) (suc b)) ∙ in-ring 0 k (omega arith) l (ltb (suc a) (suc b)) (ltb (suc b) (suc a)))
-arc-in (suc zero) k a b l =
-    ap State (ap (λ (n : ℕ). (k + n) % 4 * 2) (not-past (suc a) (suc b)) ∙ in-ring 1 k (omega arith) l (ltb (suc a) (suc b)) (ltb (suc b) (suc a)))
+arc-in (suc zero) k a b l = arc-in zero k a b l
 arc-in (suc (suc zero)) k a b l =
     sector-state k (suc a) (suc b) (omega arith)
     ∙ ap State (in-ring 2 k (omega arith) l (ltb (sq (suc a + suc b)) (2 * sq (suc b))) (ltb (sq (suc b + suc a)) (2 * sq (suc a))))
@@ -138,8 +137,7 @@ arc-on : (m k a : ℕ) → k < 4 → decidedArc m (arc k (suc a) 0) ≡ State (i
 unfolding decidedArc farOf ringOf state1 state3 state4 outerSize axisState axisFar
 arc-on zero k a l =
     rw (le-leb 0 (suc a) (omega arith), le-ltb (suc a) 0 (omega arith), lt-ltb 0 (suc a) (omega arith)) (ap State (on-ring 0 k (omega arith) l true))
-arc-on (suc zero) k a l =
-    rw (le-leb 0 (suc a) (omega arith), le-ltb (suc a) 0 (omega arith), lt-ltb 0 (suc a) (omega arith)) (ap State (on-ring 1 k (omega arith) l true))
+arc-on (suc zero) k a l = arc-on zero k a l
 arc-on (suc (suc zero)) k a l =
     let p : 0 < suc a * suc a = mul-pos (omega arith) (omega arith) in
     sector-state k (suc a) 0 (omega arith)

@@ -153,7 +153,7 @@ pub fn scramble_group(mode: u8, role: u8, h: Register, plain: u8) -> Scrambled
     }
 }
 
-// How many of w data bits are unsettled.
+// How many of w data bits are unsettled. With an early return `descramble_group` is just too large to be put in line.
 fn unsettled_bits(w: u8, full: u8, held: u8) -> u8
     ensures { λ r. ⌜ r ≡ min (full - held) w ⌝ }
 {
