@@ -10,7 +10,7 @@ use Rattle.line.specs.declared.Point.{Point}
 use Rattle.deciding.specs.declared.Decision.{Decision}
 use Rattle.deciding.specs.declared.Decision.the-variants.{State, Origin, NoSector}
 use Rattle.line.specs.Table.{entry, rowFrom, member, below, every}
-use Rattle.line.specs.Mode.{isMode, width, regLen, step, states, isState, quadrant, nextQuadrant, turn, turns, quarterSteps, wholeSteps, face}
+use Rattle.line.specs.Mode.{isMode, width, capacity, step, states, isState, quadrant, nextQuadrant, turn, turns, quarterSteps, wholeSteps, face}
 use Rattle.line.specs.Point.{inRange, isOrigin, turned, sent27, levels32, sent32, sentPoint}
 use Rattle.deciding.specs.Decide.{inFirst, sector, outer, first, turnedAnswer, quarters, decide}
 use Rattle.coding.specs.Code.{changes4, changes8, changes16, coded, eighths, turnRow, group}

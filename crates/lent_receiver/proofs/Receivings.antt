@@ -24,13 +24,14 @@ use Rattle.receiver.specs.declared.Outcome.{Outcome}
 use Rattle.receiver.specs.declared.Outcome.the-variants.{Refused, Referenced, Bits, Gap}
 use Rattle.receiver.specs.declared.Started.{Started}
 use Rattle.receiver.specs.declared.Started.the-variants.{Refused as NotStarted, Ready}
-use Rattle.receiver.specs.Receiver.{Event, point, gap, freshReceiver, freshRefusal, stateRefusal, inSector, refusal, stateNext, pointNext, eventNext, next}
+use Rattle.line.specs.Refusal.{modeRefusal}
+use Rattle.receiver.specs.Receiver.{Event, point, gap, freshReceiver, stateRefusal, inSector, refusal, stateNext, pointNext, eventNext, next}
 use Rattle.receiver.specs.Outcome.{stateOutcome, pointOutcome, eventOutcome, outcome, started}
 use Rattle.receiver.specs.Calls.{after}
 use Rattle.receiver.proofs.OutcomeLaws.{in-sector}
-use Rattle.blocks.specs.declared.Block.{Block}
-use Rattle.blocks.specs.declared.Block.the-variants.{Refused as NotTaken, Taken}
-use Rattle.blocks.specs.Block.{lineByte, plainByte, outcomes, blockRefusal, block, lineBytes, plainBytes}
+use Rattle.bulk.specs.declared.Block.{Block}
+use Rattle.bulk.specs.declared.Block.the-variants.{Refused as NotTaken, Taken}
+use Rattle.bulk.specs.Block.{lineByte, plainByte, outcomes, blockRefusal, block, lineBytes, plainBytes}
 use Rattle.octets.specs.Number.{u32, le32}
 use Rattle.lent_receiver.specs.Receiving.{referenceIn, receiverIn, present, stateByte, receiverOut, answerBytes, answerOut, holdsState, holdsAnswer, freshNumber, freshState, atMost7, callNumber, callState, callAnswer, blockNumber, blockState, blockLine, blockPlain, numberOut, stateAfter, answerAfter, handedNumber, handedState, handedAnswer}
 
@@ -257,7 +258,7 @@ module _ (state : List ℕ) (m role : ℕ) (r : Started) (q : r ≡ started m ro
 
   pub fresh-refused : (n : ℕ) → r ≡ NotStarted n → (n ≡ freshNumber state m role) × (state ≡ freshState state m role)
   unfolding started freshNumber freshState
-  fresh-refused n e = go (freshRefusal m role) (why-refused (freshRefusal m role) n (sym e ∙ q))
+  fresh-refused n e = go (modeRefusal m role) (why-refused (modeRefusal m role) n (sym e ∙ q))
     where
       go : (f : ℕ) → (n ≡ f) × (f ≡ 0 → ⊥)
           → (n ≡ orNext f (need (holdsState state) 7 0)) × (state ≡ accepted (orNext f (need (holdsState state) 7 0)) (sets state 0 (receiverOut (freshReceiver m role))) state)
@@ -269,12 +270,12 @@ module _ (state : List ℕ) (m role : ℕ) (r : Started) (q : r ≡ started m ro
     unfolding started freshNumber freshState
     fresh-short h =
         let f : leb 16 (length state) ≡ false = lt-leb _ _ h in
-        rw (why-ready (freshRefusal m role) s (sym e ∙ q) .0, f) (refl, refl)
+        rw (why-ready (modeRefusal m role) s (sym e ∙ q) .0, f) (refl, refl)
 
     pub fresh-done : (b st : List ℕ) → 16 ≤ length state → b ≡ receiverOut s → st ≡ sets state 0 b
         → (0 ≡ freshNumber state m role) × (st ≡ freshState state m role)
     unfolding started freshNumber freshState
     fresh-done b st h p u =
         let t : leb 16 (length state) ≡ true = le-leb _ _ h in
-        let y = why-ready (freshRefusal m role) s (sym e ∙ q) in
+        let y = why-ready (modeRefusal m role) s (sym e ∙ q) in
         rw (y .0, t) (refl, u ∙ ap (sets state 0) (p ∙ ap receiverOut (y .1)))

@@ -18,10 +18,11 @@ use Rattle.receiver.specs.declared.Reference.the-variants.{Nothing, State}
 use Rattle.receiver.specs.declared.Receiver.{Receiver}
 use Rattle.receiver.specs.declared.Outcome.{Outcome}
 use Rattle.receiver.specs.declared.Outcome.the-variants.{Refused, Referenced, Bits, Gap}
-use Rattle.receiver.specs.Receiver.{Event, point, receiver, freshReceiver, freshRefusal, refusal, next}
+use Rattle.line.specs.Refusal.{modeRefusal}
+use Rattle.receiver.specs.Receiver.{Event, point, receiver, freshReceiver, refusal, next}
 use Rattle.receiver.specs.Outcome.{outcome}
 use Rattle.receiver.specs.Calls.{after}
-use Rattle.blocks.specs.Block.{lineByte, plainByte, outcomes, blockRefusal}
+use Rattle.bulk.specs.Block.{lineByte, plainByte, outcomes, blockRefusal}
 
 -- THE BYTES OF A STATE
 
@@ -71,7 +72,7 @@ holdsAnswer b = leb 8 (length b)
 
 -- making a receiver: its number, and the state's bytes when it returns
 unfoldable pub freshNumber : List ℕ → ℕ → ℕ → ℕ
-freshNumber state m role = orNext (freshRefusal m role) (need (holdsState state) 7 0)
+freshNumber state m role = orNext (modeRefusal m role) (need (holdsState state) 7 0)
 
 unfoldable pub freshState : List ℕ → ℕ → ℕ → List ℕ
 freshState state m role = accepted (freshNumber state m role) (sets state 0 (receiverOut (freshReceiver m role))) state

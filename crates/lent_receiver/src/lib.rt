@@ -7,7 +7,7 @@ ghost use Rattle.line.specs.Point.{at};
 ghost use Rattle.octets.specs.Number.{u32 as word};
 ghost use Rattle.receiver.specs.Receiver.{point, gap};
 ghost use Rattle.lent_receiver.specs.Receiving.{referenceIn, receiverIn, present, stateByte, receiverOut, answerBytes, freshNumber, freshState, atMost7, callNumber, callState, callAnswer, numberOut, handedNumber, handedState, handedAnswer, blockNumber, blockState, blockLine, blockPlain};
-use blocks::Block;
+use bulk::Block;
 use receiver::Intervals;
 use receiver::Outcome;
 use receiver::Receiver;
@@ -212,7 +212,7 @@ pub fn receive_points(state: &mut [u8], points: &[i16], line: &mut [u8], plain: 
     if state.len() < 16 {
         return 7;
     }
-    let b = blocks::receive_points(load_receiver(state), points, line, plain);
+    let b = bulk::receive_points(load_receiver(state), points, line, plain);
     match b {
         Block::Refused(n) => n,
         Block::Taken(t) => {

@@ -5,7 +5,7 @@ use mathlib.Core.List.{List, [], _∷_}
 use native.Mathlib.Omega.{arith}
 use native.Mathlib.Decide.{decLe}
 use lib.ListN.{getD}
-use Rattle.line.specs.Mode.{byMode, width, regLen}
+use Rattle.line.specs.Mode.{byMode, width, capacity}
 
 module _ {A : Type 0} (a b c d : A) where
   cell : (m i : ℕ) (v : A) → m - 1 ≡ i → getD (a ∷ b ∷ c ∷ d ∷ []) i d ≡ v → byMode m a b c d ≡ v
@@ -57,6 +57,6 @@ pub width-range : (m : ℕ) → (2 ≤ width m) × (width m ≤ 4)
 unfolding width
 width-range m = by-all (λ (w : ℕ). (2 ≤ w) × (w ≤ 4)) 2 3 2 4 (omega arith) (omega arith) (omega arith) (omega arith) m
 
-pub length-range : (m : ℕ) → (7 ≤ regLen m) × (regLen m ≤ 23)
-unfolding regLen
+pub length-range : (m : ℕ) → (7 ≤ capacity m) × (capacity m ≤ 23)
+unfolding capacity
 length-range m = by-all (λ (w : ℕ). (7 ≤ w) × (w ≤ 23)) 7 7 23 23 (omega arith) (omega arith) (omega arith) (omega arith) m

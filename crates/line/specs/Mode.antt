@@ -22,8 +22,8 @@ unfoldable pub width : ℕ → ℕ
 width m = byMode m 2 3 2 4
 
 -- R: the scrambler's length
-unfoldable pub regLen : ℕ → ℕ
-regLen m = byMode m 7 7 23 23
+unfoldable pub capacity : ℕ → ℕ
+capacity m = byMode m 7 7 23 23
 
 -- step: the smallest turn that carries the states onto themselves, in degrees
 unfoldable pub step : ℕ → ℕ

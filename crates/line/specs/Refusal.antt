@@ -1,6 +1,7 @@
 -- Document 01, "Refusals": "the lowest that applies is given, and only when its condition holds". A refusal is its number, 0 is none.
 use Prim.Native.Nat.{ℕ, zero, suc}
 use mathlib.Core.Bool.{Bool, true, false}
+use Rattle.line.specs.Mode.{isMode, isRole}
 
 -- the number n unless the need is met, and then what the later needs say
 abbrev pub need : Bool → ℕ → ℕ → ℕ
@@ -16,3 +17,7 @@ orNext (suc n) rest = suc n
 abbrev pub accepted : {A : Type 0} → ℕ → A → A → A
 accepted zero a b = a
 accepted (suc n) a b = b
+
+-- "1 mode not 1 to 4, a handed-in state's included; 2 role not one of the mode's, a state's included"
+unfoldable pub modeRefusal : ℕ → ℕ → ℕ
+modeRefusal m role = need (isMode m) 1 (need (isRole m role) 2 0)

@@ -2,8 +2,9 @@
 ghost use mathlib.Core.Path.{_≡_};
 ghost use Prim.Native.Nat.{_≤_};
 ghost use lib.IntN.{natAbs};
-ghost use Rattle.line.specs.Mode.{isMode, isRole, width, regLen, isState};
+ghost use Rattle.line.specs.Mode.{isMode, isRole, width, capacity, isState};
 ghost use Rattle.line.specs.Point.{at, coordinateIn, inRange, coordinatesIn, sentPoint};
+ghost use Rattle.line.specs.Refusal.{orNext, modeRefusal};
 ghost use Rattle.line.specs.Constellation.{sentPoints};
 
 // A point: 1024 to one level.
@@ -24,6 +25,30 @@ pub fn role_ok(mode: u8, role: u8) -> bool
     if mode <= 2 { role < 1 } else { role < 2 }
 }
 
+// The number of a need that is not met, else the rest.
+pub fn need(met: bool, number: u8, rest: u8) -> u8
+    ensures { λ r. ⌜ r ≡ Rattle.line.specs.Refusal.need met number rest ⌝ }
+{
+    if met { rest } else { number }
+}
+
+// The first of two refusals.
+pub fn or_next(a: u8, b: u8) -> u8
+    ensures { λ r. ⌜ r ≡ orNext a b ⌝ }
+{
+    if a == 0 {
+        return b;
+    }
+    a
+}
+
+// The numbers about a mode and a role of it.
+pub fn mode_fault(mode: u8, role: u8) -> u8
+    ensures { λ r. ⌜ r ≡ modeRefusal mode role ⌝ }
+{
+    need(mode_ok(mode), 1, need(role_ok(mode, role), 2, 0))
+}
+
 // The line bits in a point.
 pub fn width_of(mode: u8) -> u8
     ensures { λ r. ⌜ r ≡ width mode ⌝ }
@@ -40,8 +65,8 @@ pub fn width_of(mode: u8) -> u8
 }
 
 // The scrambler's length.
-pub fn length_of(mode: u8) -> u8
-    ensures { λ r. ⌜ r ≡ regLen mode ⌝ }
+pub fn capacity_of(mode: u8) -> u8
+    ensures { λ r. ⌜ r ≡ capacity mode ⌝ }
 {
     if mode <= 2 { 7 } else { 23 }
 }

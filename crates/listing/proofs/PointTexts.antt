@@ -38,10 +38,10 @@ use Rattle.receiver.specs.Outcome.{answerOf, groupOf, stateOutcome, pointOutcom
 use Rattle.receiver.specs.Calls.{after}
 use Rattle.receiver.proofs.OutcomeLaws.{told}
 use Rattle.receiver.proofs.CallLaws.{no-refusal, accepted-valid, same-next}
-use Rattle.blocks.specs.declared.Block.{Block}
-use Rattle.blocks.specs.declared.Block.the-variants.{Refused as NotTaken, Taken}
-use Rattle.blocks.specs.Block.{lineByte, plainByte, outcomes, EachAccepted, lentOk, blockRefusal, block, lineBytes, plainBytes}
-use Rattle.blocks.proofs.BlockLaws.{has-place, each-has-place, at-once}
+use Rattle.bulk.specs.declared.Block.{Block}
+use Rattle.bulk.specs.declared.Block.the-variants.{Refused as NotTaken, Taken}
+use Rattle.bulk.specs.Block.{lineByte, plainByte, outcomes, EachAccepted, lentOk, blockRefusal, block, lineBytes, plainBytes}
+use Rattle.bulk.proofs.BlockLaws.{has-place, each-has-place, at-once}
 use Rattle.store.specs.Layout.{Event, point, points}
 use Rattle.listing.specs.Text.{lineText, lines, through}
 use Rattle.listing.specs.Heard.{AllTaken}

@@ -1,5 +1,5 @@
 // The listing of a track store, as text into lent bytes. Document 01, "Listing program".
-use blocks::Block;
+use bulk::Block;
 use octets::get_i16;
 use octets::get8;
 use octets::get16;
@@ -169,7 +169,7 @@ fn put_points(r: &[u8], n: usize, out: &mut [u8], from: Progress) -> Progress
     let mut line = [0u8; 7];
     let mut plain = [0u8; 7];
     let m = 2 * n;
-    let b = blocks::receive_points(s, &numbers[..m], &mut line, &mut plain);
+    let b = bulk::receive_points(s, &numbers[..m], &mut line, &mut plain);
     match b {
         Block::Refused(_) => from,
         Block::Taken(t) => {

@@ -24,7 +24,8 @@ use Rattle.scrambler.proofs.RegisterLaws.{Ok, ok, passes, ok-pushes}
 use Rattle.receiver.specs.declared.Reference.{Reference}
 use Rattle.receiver.specs.declared.Reference.the-variants.{Nothing as none, State as some}
 use Rattle.receiver.specs.declared.Receiver.{Receiver}
-use Rattle.receiver.specs.Receiver.{freshReceiver, Event, point, gap, isFresh, fieldsOk, freshRefusal, stateRefusal, refusal, refused, reference, lost, lineBits, stateAnswer, pointAnswer, eventAnswer, answer, intervals, placeAfter, forgotten, stateLine, stateNext, pointNext, eventNext, next}
+use Rattle.line.specs.Refusal.{modeRefusal}
+use Rattle.receiver.specs.Receiver.{freshReceiver, Event, point, gap, isFresh, fieldsOk, stateRefusal, refusal, refused, reference, lost, lineBits, stateAnswer, pointAnswer, eventAnswer, answer, intervals, placeAfter, forgotten, stateLine, stateNext, pointNext, eventNext, next}
 use Rattle.receiver.specs.Calls.{after, Heard, heard, heardIntervals}
 use Rattle.coding.proofs.DecideLaws.{Off, decide-off}
 use Rattle.receiver.proofs.OutcomeLaws.{next-placed}
@@ -38,17 +39,17 @@ pub record Valid (s : Receiver) : Type 0 where
   pub fields : T (fieldsOk (s .mode) (s .reference) (s .line))
 
 pub valid : (s : Receiver) → stateRefusal s ≡ 0 → Valid s
-unfolding stateRefusal freshRefusal
+unfolding stateRefusal modeRefusal
 valid s z =
-    let y : freshRefusal (s .mode) (s .role) ≡ 0 = next-first (freshRefusal (s .mode) (s .role)) _ z in
+    let y : modeRefusal (s .mode) (s .role) ≡ 0 = next-first (modeRefusal (s .mode) (s .role)) _ z in
     record {
       mode = need-met (isMode (s .mode)) 0 _ y;
       role = need-met (isRole (s .mode) (s .role)) 1 _ (need-rest (isMode (s .mode)) 0 _ y);
-      fields = need-met (fieldsOk (s .mode) (s .reference) (s .line)) 3 _ (next-rest (freshRefusal (s .mode) (s .role)) _ z);
+      fields = need-met (fieldsOk (s .mode) (s .reference) (s .line)) 3 _ (next-rest (modeRefusal (s .mode) (s .role)) _ z);
     }
 
 pub no-refusal : (s : Receiver) → Valid s → stateRefusal s ≡ 0
-unfolding stateRefusal freshRefusal
+unfolding stateRefusal modeRefusal
 no-refusal s v =
     or-none _ _ (need-intro (isMode (s .mode)) 1 _ (v .mode) (need-intro (isRole (s .mode) (s .role)) 2 0 (v .role) refl))
     (need-intro (fieldsOk (s .mode) (s .reference) (s .line)) 4 0 (v .fields) refl)
@@ -123,7 +124,7 @@ module _ (s : Receiver) (v : Valid s) where
 pub handed-back-passes : (s : Receiver) (e : Event) → refusal s e ≡ 0 → stateRefusal (next s e) ≡ 0
 handed-back-passes s e z = no-refusal (next s e) (next-valid s (accepted-valid s e z) e)
 
-pub fresh-passes : (m role : ℕ) → freshRefusal m role ≡ 0 → stateRefusal (freshReceiver m role) ≡ 0
+pub fresh-passes : (m role : ℕ) → modeRefusal m role ≡ 0 → stateRefusal (freshReceiver m role) ≡ 0
 unfolding freshReceiver stateRefusal fieldsOk isFresh
 fresh-passes m role z = rw z
 

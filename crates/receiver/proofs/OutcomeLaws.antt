@@ -30,7 +30,8 @@ use Rattle.receiver.specs.declared.Outcome.{Outcome}
 use Rattle.receiver.specs.declared.Outcome.the-variants.{Refused, Referenced, Bits, Gap}
 use Rattle.receiver.specs.declared.Started.{Started}
 use Rattle.receiver.specs.declared.Started.the-variants.{Refused as NotStarted, Ready}
-use Rattle.receiver.specs.Receiver.{receiver, freshReceiver, Event, point, gap, isFresh, fieldsOk, freshRefusal, stateRefusal, inSector, hasRoom, eventRefusal, refusal, refused, decoded, lineBits, stateAnswer, pointAnswer, eventAnswer, answer, intervals, placeAfter, forgotten, stateLine, stateNext, pointNext, eventNext, next}
+use Rattle.line.specs.Refusal.{modeRefusal}
+use Rattle.receiver.specs.Receiver.{receiver, freshReceiver, Event, point, gap, isFresh, fieldsOk, stateRefusal, inSector, hasRoom, eventRefusal, refusal, refused, decoded, lineBits, stateAnswer, pointAnswer, eventAnswer, answer, intervals, placeAfter, forgotten, stateLine, stateNext, pointNext, eventNext, next}
 use Rattle.receiver.specs.Outcome.{answerOf, stateOf, Told, groupOf, stateOutcome, gapOutcome, pointOutcome, eventOutcome, outcome, ifRoom, Made, started}
 
 -- WHAT AN OUTCOME SAYS
@@ -113,20 +114,6 @@ module _ (s : Receiver) where
 
 -- THE WAYS OF THE CODE
 
-module _ (m role : ℕ) (a : Bool) (p : a ≡ isMode m) where
-  pub fault-mode : a ≡ false → 1 ≡ freshRefusal m role
-  unfolding freshRefusal
-  fault-mode h = rw (← p, h)
-
-  module _ (h : a ≡ true) (b : Bool) (q : b ≡ isRole m role) where
-    pub fault-role : b ≡ false → 2 ≡ freshRefusal m role
-    unfolding freshRefusal
-    fault-role k = rw (← p, h, ← q, k)
-
-    pub fault-none : b ≡ true → 0 ≡ freshRefusal m role
-    unfolding freshRefusal
-    fault-none k = rw (← p, h, ← q, k)
-
 module _ (m : ℕ) (h : Register) (o : Reference) where
   pub fields-none : o ≡ none → eqb (h .bits) 0 && eqb (h .held .0) 0 ≡ fieldsOk m o h
   unfolding fieldsOk isFresh
@@ -144,10 +131,10 @@ or-some f (suc n) k e h = e
 or-none : (f n k : ℕ) → f ≡ n → f ≡ 0 → k ≡ orNext n k
 or-none f n k e h = rw (← e, h)
 
-module _ (s : Receiver) (f : ℕ) (e : f ≡ freshRefusal (s .mode) (s .role)) where
+module _ (s : Receiver) (f : ℕ) (e : f ≡ modeRefusal (s .mode) (s .role)) where
   pub fault-early : (f ≡ 0 → ⊥) → f ≡ stateRefusal s
   unfolding stateRefusal
-  fault-early h = or-some f (freshRefusal (s .mode) (s .role)) _ e h
+  fault-early h = or-some f (modeRefusal (s .mode) (s .role)) _ e h
 
   module _ (h : f ≡ 0) (a : Bool) (p : a ≡ fieldsOk (s .mode) (s .reference) (s .line)) where
     pub fault-fields : a ≡ false → 4 ≡ stateRefusal s
@@ -244,18 +231,18 @@ module _ (s : Receiver) (f : ℕ) (a : f ≡ stateRefusal s) where
 
 -- A FRESH RECEIVER
 
-made : (m role n : ℕ) → n ≡ freshRefusal m role → Made m role (accepted n (Ready (freshReceiver m role)) (NotStarted n))
+made : (m role n : ℕ) → n ≡ modeRefusal m role → Made m role (accepted n (Ready (freshReceiver m role)) (NotStarted n))
 made m role zero e = record { number = e; made = ap (λ (k : ℕ). accepted k (freshReceiver m role ∷ []) []) e }
 made m role (suc n) e = record { number = e; made = ap (λ (k : ℕ). accepted k (freshReceiver m role ∷ []) []) e }
 
-module _ (m role f : ℕ) (e : f ≡ freshRefusal m role) where
+module _ (m role f : ℕ) (e : f ≡ modeRefusal m role) where
   both-started : (r : Started) → r ≡ started m role → (r ≡ started m role) × Made m role r
   unfolding started
-  both-started r q = (q, subst (Made m role) (sym q) (made m role (freshRefusal m role) refl))
+  both-started r q = (q, subst (Made m role) (sym q) (made m role (modeRefusal m role) refl))
 
   pub started-fault : (f ≡ 0 → ⊥) → (NotStarted f ≡ started m role) × Made m role (NotStarted f)
   unfolding started
-  started-fault h = both-started (NotStarted f) (go (freshRefusal m role) e)
+  started-fault h = both-started (NotStarted f) (go (modeRefusal m role) e)
     where
       go : (n : ℕ) → f ≡ n → NotStarted f ≡ accepted n (Ready (freshReceiver m role)) (NotStarted n)
       go zero q = absurd (h q)

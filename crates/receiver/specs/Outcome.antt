@@ -20,7 +20,8 @@ use Rattle.receiver.specs.declared.Outcome.{Outcome}
 use Rattle.receiver.specs.declared.Outcome.the-variants.{Refused, Referenced, Bits, Gap}
 use Rattle.receiver.specs.declared.Started.{Started}
 use Rattle.receiver.specs.declared.Started.the-variants.{Refused as NotStarted, Ready}
-use Rattle.receiver.specs.Receiver.{Event, point, gap, Answer, refused, reference, decoded, lost, freshReceiver, freshRefusal, hasRoom, refusal, answer, placeAfter, forgotten, stateNext, next}
+use Rattle.line.specs.Refusal.{modeRefusal}
+use Rattle.receiver.specs.Receiver.{Event, point, gap, Answer, refused, reference, decoded, lost, freshReceiver, hasRoom, refusal, answer, placeAfter, forgotten, stateNext, next}
 
 -- THE PAPER'S NUMBER AND VALUES
 
@@ -95,8 +96,8 @@ madeOf (NotStarted n) = []
 madeOf (Ready s) = s ∷ []
 
 pub record Made (m role : ℕ) (r : Started) : Type 0 where
-  pub number : numberOf r ≡ freshRefusal m role
-  pub made : madeOf r ≡ accepted (freshRefusal m role) (freshReceiver m role ∷ []) []
+  pub number : numberOf r ≡ modeRefusal m role
+  pub made : madeOf r ≡ accepted (modeRefusal m role) (freshReceiver m role ∷ []) []
 
 unfoldable pub started : ℕ → ℕ → Started
-started m role = accepted (freshRefusal m role) (Ready (freshReceiver m role)) (NotStarted (freshRefusal m role))
+started m role = accepted (modeRefusal m role) (Ready (freshReceiver m role)) (NotStarted (modeRefusal m role))

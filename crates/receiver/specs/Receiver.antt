@@ -6,11 +6,11 @@ use lib.Dec.{eqb, leb}
 use Rattle.line.specs.declared.Point.{Point}
 use Rattle.deciding.specs.declared.Decision.{Decision}
 use Rattle.deciding.specs.declared.Decision.the-variants.{State, Origin, NoSector}
-use Rattle.line.specs.Mode.{isMode, isRole, isState, width, face}
+use Rattle.line.specs.Mode.{isState, width, face}
 use Rattle.line.specs.Point.{inRange}
 use Rattle.deciding.specs.Decide.{decide}
 use Rattle.coding.specs.Code.{group}
-use Rattle.line.specs.Refusal.{need, orNext, accepted}
+use Rattle.line.specs.Refusal.{need, orNext, accepted, modeRefusal}
 use Rattle.scrambler.specs.declared.Register.{Register}
 use Rattle.scrambler.specs.Bits.{bits}
 use Rattle.scrambler.specs.Register.{fresh, pushes, registerOk}
@@ -42,12 +42,9 @@ unfoldable pub fieldsOk : ℕ → Reference → Register → Bool
 fieldsOk m none h = isFresh h
 fieldsOk m (some x) h = isState m x && registerOk m h
 
--- of making a receiver, and of a handed-in one
-unfoldable pub freshRefusal : ℕ → ℕ → ℕ
-freshRefusal m role = need (isMode m) 1 (need (isRole m role) 2 0)
-
+-- of a handed-in receiver; of making one it is `modeRefusal`
 unfoldable pub stateRefusal : Receiver → ℕ
-stateRefusal s = orNext (freshRefusal (s .mode) (s .role)) (need (fieldsOk (s .mode) (s .reference) (s .line)) 4 0)
+stateRefusal s = orNext (modeRefusal (s .mode) (s .role)) (need (fieldsOk (s .mode) (s .reference) (s .line)) 4 0)
 
 -- number 10: off the origin, and in none of the eight sectors
 abbrev pub inSector : Decision → Bool

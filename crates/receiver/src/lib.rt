@@ -1,7 +1,8 @@
 // The receiver: its state, its answers, and the points and gaps that it takes. Document 01, "Receiver" and "Refusals".
 ghost use mathlib.Core.Path.{_≡_};
 ghost use Rattle.line.specs.Point.{at};
-ghost use Rattle.receiver.specs.Receiver.{receiver, point, gap, fieldsOk, freshRefusal, stateRefusal};
+ghost use Rattle.line.specs.Refusal.{modeRefusal};
+ghost use Rattle.receiver.specs.Receiver.{receiver, point, gap, fieldsOk, stateRefusal};
 ghost use Rattle.receiver.specs.Outcome.{Told, stateOutcome, gapOutcome, outcome, ifRoom, Made, started};
 use scrambler::BitCount;
 use scrambler::Register;
@@ -46,23 +47,12 @@ pub enum Started {
     Ready(Receiver),
 }
 
-// The number of what is wrong with a mode and a role, 0 for nothing.
-fn fresh_fault(mode: u8, role: u8) -> u8
-    ensures { λ r. ⌜ r ≡ freshRefusal mode role ⌝ }
-{
-    if line::mode_ok(mode) {
-        if line::role_ok(mode, role) { 0 } else { 2 }
-    } else {
-        1
-    }
-}
-
 // A receiver that has taken nothing.
 pub fn fresh(mode: u8, role: u8) -> Started
     ensures { λ r. ⌜ r ≡ started mode role ⌝ }
     ensures { λ r. ⌜ Made mode role r ⌝ }
 {
-    let fault = fresh_fault(mode, role);
+    let fault = line::mode_fault(mode, role);
     if fault != 0 {
         return Started::Refused(fault);
     }
@@ -91,7 +81,7 @@ fn fields_ok(mode: u8, reference: Reference, h: Register) -> bool
 pub fn state_fault(s: Receiver) -> u8
     ensures { λ r. ⌜ r ≡ stateRefusal s ⌝ }
 {
-    let fault = fresh_fault(s.mode, s.role);
+    let fault = line::mode_fault(s.mode, s.role);
     if fault != 0 {
         return fault;
     }

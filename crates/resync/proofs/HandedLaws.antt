@@ -14,7 +14,7 @@ use Rattle.line.proofs.RefusalLaws.{need-met, need-rest}
 use Rattle.deciding.specs.declared.Decision.{Decision}
 use Rattle.deciding.specs.declared.Decision.the-variants.{State, Origin, NoSector}
 use Rattle.line.specs.declared.Point.{Point}
-use Rattle.line.specs.Mode.{width, regLen, face}
+use Rattle.line.specs.Mode.{width, capacity, face}
 use Rattle.line.specs.Point.{at}
 use Rattle.deciding.specs.Decide.{decide, stateIn}
 use Rattle.coding.specs.Code.{group}
@@ -31,7 +31,8 @@ use Rattle.sender.proofs.SendLaws.{group-mode}
 use Rattle.sender.proofs.DataLaws.{Made, From, consecutive, statesOf, lineBits, given, Reads, from-reads}
 use Rattle.store.specs.Layout as Stored
 use Rattle.octets.proofs.Sets.{getD-sets-in}
-use Rattle.store.specs.Store.{orElse, events, refusal}
+use Rattle.line.specs.Refusal.{orNext}
+use Rattle.store.specs.Store.{events, refusal}
 use Rattle.store.specs.Reading.{numbers, readNumber, readCount, readResult}
 use Rattle.track.specs.Calls.{after, accepted}
 use Rattle.track.proofs.CallLaws.{Run, calls-law}
@@ -79,7 +80,7 @@ events-read ns k (Stored.point p ∷ es) s =
 events-read ns k (Stored.lost n ∷ es) s =
     ap₂ _∷_ (three-in ns k (pos 2) (pos n) (pos 0) (numbers es) s) (events-read ns (k + 3) es (three-on ns k (pos 2) (pos n) (pos 0) (numbers es) s))
 
-or-rest : (a b : ℕ) → orElse a b ≡ 0 → b ≡ 0
+or-rest : (a b : ℕ) → orNext a b ≡ 0 → b ≡ 0
 or-rest zero b e = e
 or-rest (suc a) b e = absurd (omega arith)
 

@@ -12,7 +12,7 @@ use lib.Seq.{drop-nil}
 use Rattle.deciding.specs.declared.Decision.{Decision}
 use Rattle.deciding.specs.declared.Decision.the-variants.{State, Origin, NoSector}
 use Rattle.line.specs.Table.{every}
-use Rattle.line.specs.Mode.{isMode, isState, width, regLen, face}
+use Rattle.line.specs.Mode.{isMode, isState, width, capacity, face}
 use Rattle.deciding.specs.Decide.{decide}
 use Rattle.coding.specs.Code.{group}
 use Rattle.line.specs.Refusal.{accepted}
@@ -83,10 +83,10 @@ data-sized w (x ∷ xs) a b = (a .0 ∙ b .0, data-sized w xs (a .1) (b .1))
 
 -- ASSURED DATA BITS
 
-pub enough : (m : ℕ) → T (isMode m) → (2 ≤ assuredPoint m) × (regLen m ≤ (assuredPoint m - 2) * width m)
+pub enough : (m : ℕ) → T (isMode m) → (2 ≤ assuredPoint m) × (capacity m ≤ (assuredPoint m - 2) * width m)
 enough =
-    mode-cases (λ m. (2 ≤ assuredPoint m) × (regLen m ≤ (assuredPoint m - 2) * width m)) (unfold assuredPoint regLen width in (omega arith))
-    (unfold assuredPoint regLen width in (omega arith)) (unfold assuredPoint regLen width in (omega arith)) (unfold assuredPoint regLen width in (omega arith))
+    mode-cases (λ m. (2 ≤ assuredPoint m) × (capacity m ≤ (assuredPoint m - 2) * width m)) (unfold assuredPoint capacity width in (omega arith))
+    (unfold assuredPoint capacity width in (omega arith)) (unfold assuredPoint capacity width in (omega arith)) (unfold assuredPoint capacity width in (omega arith))
 
 -- a list of accepted points with what it gives
 pub record Received (m role : ℕ) (A : List Heard) : Type 0 where
@@ -139,7 +139,7 @@ turned-data m role (x ∷ xs) (y ∷ ys) j k l t =
 pub data-settled : (m role : ℕ) (A : List Heard) → Received m role A → AllSettled (dataFrom (assuredPoint m) A)
 data-settled m role [] k = rw (drop-nil {A = Heard} (assuredPoint m - 1)) tt
 data-settled m role (x ∷ xs) k =
-    let h : Register = register 0 (regLen m) in
+    let h : Register = register 0 (capacity m) in
     let g : List ℕ = row (lines m (decidedAs m (x .event)) (decidedStates m xs)) in
     subst AllSettled (sym (data-any m role x xs k h))
-    (all-drop _ ((assuredPoint m - 2) * width m) (descramble m role h g) (all-settled m role h g (le-refl (regLen m))))
+    (all-drop _ ((assuredPoint m - 2) * width m) (descramble m role h g) (all-settled m role h g (le-refl (capacity m))))

@@ -7,7 +7,7 @@ use native.Mathlib.Decide.{decLe}
 use borrow.Author.Tests.{le-leb}
 use lib.ListN.{length, take, drop, length-take, take-append-drop, drop-of-length-le}
 use lib.Seq.{drop-at, drop-nil, drop-append-add}
-use Rattle.line.specs.Mode.{regLen}
+use Rattle.line.specs.Mode.{capacity}
 use Rattle.scrambler.specs.declared.Register.{Register}
 use Rattle.scrambler.specs.Register.{push, pushes}
 use Rattle.scrambler.specs.Scramble.{Datum, descramble}
@@ -33,7 +33,7 @@ map-drop f (suc n) [] = refl
 map-drop f (suc n) (x ∷ xs) = map-drop f n xs
 
 -- past R line bits what a register held before does not count
-pub forget : (m role n : ℕ) (h h′ : Register) (bs : List ℕ) → regLen m ≤ n → drop n (descramble m role h bs) ≡ drop n (descramble m role h′ bs)
+pub forget : (m role n : ℕ) (h h′ : Register) (bs : List ℕ) → capacity m ≤ n → drop n (descramble m role h bs) ≡ drop n (descramble m role h′ bs)
 forget m role n h h′ bs r = go (decLe n (length bs))
   where
     -- the register after the first n line bits is one and the same
@@ -54,10 +54,10 @@ forget m role n h h′ bs r = go (decLe n (length bs))
     go (no p) = none h (omega (arith, p)) ∙ sym (none h′ (omega (arith, p)))
 
 -- a full register settles every bit
-pub all-settled : (m role : ℕ) (h : Register) (bs : List ℕ) → regLen m ≤ h .held .0 → AllSettled (descramble m role h bs)
+pub all-settled : (m role : ℕ) (h : Register) (bs : List ℕ) → capacity m ≤ h .held .0 → AllSettled (descramble m role h bs)
 all-settled m role h [] p = tt
 all-settled m role h (b ∷ bs) p =
-    (rw (le-leb (regLen m) (h .held .0) p) tt, all-settled m role (push m h b) bs (full-push m h b p))
+    (rw (le-leb (capacity m) (h .held .0) p) tt, all-settled m role (push m h b) bs (full-push m h b p))
 
 pub all-drop : {A : Type 0} (P : A → Type 0) (n : ℕ) (xs : List A) → All P xs → All P (drop n xs)
 all-drop P zero xs a = a

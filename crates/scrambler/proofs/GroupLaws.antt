@@ -10,7 +10,7 @@ use lib.ListN.{length}
 use lib.Bits.{bitXor}
 use lib.Pow.{pow-pos, pow-add}
 use Rattle.line.specs.Table.{every}
-use Rattle.line.specs.Mode.{width, regLen}
+use Rattle.line.specs.Mode.{width, capacity}
 use Rattle.line.proofs.TableLaws.{and-left, and-right, and-intro}
 use Rattle.line.proofs.ByMode.{by-all, width-range}
 use Rattle.scrambler.specs.declared.Register.{Register}
@@ -52,13 +52,13 @@ mix-mix : (m role : ℕ) (h : Register) (d : ℕ) → d < 2 → mix m role h (mi
 unfolding mix
 mix-mix m role h d p = omega arith
 
-pub unscramble : (m role : ℕ) (h : Register) (ds : List ℕ) → regLen m ≤ h .held .0 → T (every isBit ds)
+pub unscramble : (m role : ℕ) (h : Register) (ds : List ℕ) → capacity m ≤ h .held .0 → T (every isBit ds)
     → descramble m role h (scramble m role h ds) ≡ map settled ds
 unfolding isBit
 unscramble m role h [] p t = refl
 unscramble m role h (d ∷ ds) p t =
     rw (
-      le-leb (regLen m) (h .held .0) p,
+      le-leb (capacity m) (h .held .0) p,
       mix-mix m role h d (ltb→lt d 2 (and-left (ltb d 2) (every isBit ds) t)),
       unscramble m role (push m h (mix m role h d)) ds (full-push m h (mix m role h d) p) (and-right (ltb d 2) (every isBit ds) t),
     )
@@ -67,7 +67,7 @@ pub descramble-append : (m role : ℕ) (h : Register) (cs bs : List ℕ)
     → descramble m role h (cs ++ bs) ≡ descramble m role h cs ++ descramble m role (pushes m h cs) bs
 descramble-append m role h [] bs = refl
 descramble-append m role h (c ∷ cs) bs =
-    ap (λ (t : List Datum). mark (leb (regLen m) (h .held .0)) (mix m role h c) ∷ t) (descramble-append m role (push m h c) cs bs)
+    ap (λ (t : List Datum). mark (leb (capacity m) (h .held .0)) (mix m role h c) ∷ t) (descramble-append m role (push m h c) cs bs)
 
 pub length-descramble : (m role : ℕ) (h : Register) (bs : List ℕ) → length (descramble m role h bs) ≡ length bs
 length-descramble m role h [] = refl
@@ -75,17 +75,17 @@ length-descramble m role h (b ∷ bs) = ap suc (length-descramble m role (push m
 
 -- THE MARKS STAND IN FRONT
 
-held-push : (m : ℕ) (h : Register) (b : ℕ) → push m h b .held .0 ≡ min (h .held .0 + 1) (regLen m)
+held-push : (m : ℕ) (h : Register) (b : ℕ) → push m h b .held .0 ≡ min (h .held .0 + 1) (capacity m)
 unfolding push
 held-push m h b = refl
 
-marked-unmixed : (m role u : ℕ) (h : Register) (bs : List ℕ) → regLen m - h .held .0 ≡ u → descramble m role h bs ≡ marked u (unmixed m role h bs)
+marked-unmixed : (m role u : ℕ) (h : Register) (bs : List ℕ) → capacity m - h .held .0 ≡ u → descramble m role h bs ≡ marked u (unmixed m role h bs)
 marked-unmixed m role u h [] e = refl
 marked-unmixed m role zero h (b ∷ bs) e =
-    rw (le-leb (regLen m) (h .held .0) (omega arith))
+    rw (le-leb (capacity m) (h .held .0) (omega arith))
     (ap (λ (t : List Datum). settled (mix m role h b) ∷ t) (marked-unmixed m role zero (push m h b) bs (omega (arith, held-push m h b))))
 marked-unmixed m role (suc u) h (b ∷ bs) e =
-    rw (lt-leb (regLen m) (h .held .0) (omega arith))
+    rw (lt-leb (capacity m) (h .held .0) (omega arith))
     (ap (λ (t : List Datum). unsettled ∷ t) (marked-unmixed m role u (push m h b) bs (omega (arith, held-push m h b))))
 
 length-marked : (u : ℕ) (bs : List ℕ) → length (marked u bs) ≡ length bs
@@ -137,7 +137,7 @@ read-marked (suc u) (b ∷ bs) t =
 
 -- WHAT THE FUNCTIONS COMPUTE
 
-pub mixed-law : (m role n x w a full r : ℕ) → w ≡ width m → a ≡ nearTap m role → full ≡ regLen m
+pub mixed-law : (m role n x w a full r : ℕ) → w ≡ width m → a ≡ nearTap m role → full ≡ capacity m
     → r ≡ bitXor (bitXor x (n / 2 ^ (a - w))) (n / 2 ^ (full - w)) % 2 ^ width m → r ≡ mixedAtOnce m role n x
 unfolding mixedAtOnce
 mixed-law m role n x w a full r ew ea ef e =
@@ -148,14 +148,14 @@ width-suc : (m : ℕ) → suc (width m - 1) ≡ width m
 width-suc m = let z = width-range m .0 in omega arith
 
 -- the register after a group
-pub push-law : (m : ℕ) (h : Register) (g w full low size next held : ℕ) → w ≡ width m → full ≡ regLen m → low ≡ g % 2 ^ width m → size ≡ 2 ^ w
-    → next ≡ (h .bits * size + low) % 2 ^ regLen m → held ≡ min (h .held .0 + w) full
+pub push-law : (m : ℕ) (h : Register) (g w full low size next held : ℕ) → w ≡ width m → full ≡ capacity m → low ≡ g % 2 ^ width m → size ≡ 2 ^ w
+    → next ≡ (h .bits * size + low) % 2 ^ capacity m → held ≡ min (h .held .0 + w) full
     → _≡_ {A = Register} (record { bits = next; held = record { 0 = held } }) (pushes m h (bits (width m) g))
 push-law m h g w full low size next held ew ef el es en eh =
     same-register
-    (en ∙ ap₂ (λ (i j : ℕ). (h .bits * i + j) % 2 ^ regLen m) (es ∙ ap (λ (i : ℕ). 2 ^ i) ew) el)
+    (en ∙ ap₂ (λ (i j : ℕ). (h .bits * i + j) % 2 ^ capacity m) (es ∙ ap (λ (i : ℕ). 2 ^ i) ew) el)
     (eh ∙ ap₂ (λ (i j : ℕ). min (h .held .0 + i) j) ew ef)
-    ∙ sym (subst (λ (k : ℕ). pushes m h (bits k g) ≡ register ((h .bits * 2 ^ k + g % 2 ^ k) % 2 ^ regLen m) (min (h .held .0 + k) (regLen m))) (width-suc m) (push-group m h (width m - 1) g))
+    ∙ sym (subst (λ (k : ℕ). pushes m h (bits k g) ≡ register ((h .bits * 2 ^ k + g % 2 ^ k) % 2 ^ capacity m) (min (h .held .0 + k) (capacity m))) (width-suc m) (push-group m h (width m - 1) g))
   where
     same-register : {a b c d : ℕ} → a ≡ b → c ≡ d → register a c ≡ register b d
     same-register p q = λ i. record { bits = p i; held = record { 0 = q i } }
@@ -173,28 +173,28 @@ scramble-law m role d line h next e f =
 
 -- the data bits of a group, as the answer has them
 module _ (m role : ℕ) (h : Register) (g : ℕ) where
-  group-marks : descramble m role h (bits (width m) g) ≡ marked (regLen m - h .held .0) (unmixed m role h (bits (width m) g))
-  group-marks = marked-unmixed m role (regLen m - h .held .0) h (bits (width m) g) refl
+  group-marks : descramble m role h (bits (width m) g) ≡ marked (capacity m - h .held .0) (unmixed m role h (bits (width m) g))
+  group-marks = marked-unmixed m role (capacity m - h .held .0) h (bits (width m) g) refl
 
   group-length : length (unmixed m role h (bits (width m) g)) ≡ width m
   group-length = length-unmixed m role h (bits (width m) g) ∙ length-bits (width m) g
 
-  group-unsettled : unsettledIn (descramble m role h (bits (width m) g)) ≡ min (regLen m - h .held .0) (width m)
+  group-unsettled : unsettledIn (descramble m role h (bits (width m) g)) ≡ min (capacity m - h .held .0) (width m)
   group-unsettled =
-      ap unsettledIn group-marks ∙ unsettled-marked (regLen m - h .held .0) (unmixed m role h (bits (width m) g)) ∙ ap (min (regLen m - h .held .0)) group-length
+      ap unsettledIn group-marks ∙ unsettled-marked (capacity m - h .held .0) (unmixed m role h (bits (width m) g)) ∙ ap (min (capacity m - h .held .0)) group-length
 
-  group-plain : plainOf (descramble m role h (bits (width m) g)) ≡ mixedAtOnce m role (h .bits) g % 2 ^ (width m - (regLen m - h .held .0))
+  group-plain : plainOf (descramble m role h (bits (width m) g)) ≡ mixedAtOnce m role (h .bits) g % 2 ^ (width m - (capacity m - h .held .0))
   group-plain =
-      ap plainOf group-marks ∙ plain-marked (regLen m - h .held .0) (unmixed m role h (bits (width m) g)) (bits-unmixed m role h (bits (width m) g))
-      ∙ ap₂ (λ (x k : ℕ). x % 2 ^ (k - (regLen m - h .held .0))) (unmixed-at-once m role h g) group-length
+      ap plainOf group-marks ∙ plain-marked (capacity m - h .held .0) (unmixed m role h (bits (width m) g)) (bits-unmixed m role h (bits (width m) g))
+      ∙ ap₂ (λ (x k : ℕ). x % 2 ^ (k - (capacity m - h .held .0))) (unmixed-at-once m role h g) group-length
 
-  pub descramble-law : (w full u all plain : ℕ) (next : Register) → w ≡ width m → full ≡ regLen m → u ≡ min (full - h .held .0) w → all ≡ mixedAtOnce m role (h .bits) g
+  pub descramble-law : (w full u all plain : ℕ) (next : Register) → w ≡ width m → full ≡ capacity m → u ≡ min (full - h .held .0) w → all ≡ mixedAtOnce m role (h .bits) g
       → plain ≡ all % 2 ^ (w - u) → next ≡ pushes m h (bits (width m) g)
       → _≡_ {A = Descrambled} (record { plain = plain; unsettled = record { 0 = u }; next = next }) (descrambled m role h g)
   unfolding descrambled
   descramble-law w full u all plain next ew ef eu ea ep en =
       let x : u ≡ unsettledIn (descramble m role h (bits (width m) g)) = eu ∙ ap₂ (λ (i j : ℕ). min (i - h .held .0) j) ef ew ∙ sym group-unsettled in
-      let k : w - u ≡ width m - (regLen m - h .held .0) = omega arith in
+      let k : w - u ≡ width m - (capacity m - h .held .0) = omega arith in
       let y : plain ≡ plainOf (descramble m role h (bits (width m) g)) = ep ∙ ap₂ (λ (i j : ℕ). i % 2 ^ j) ea k ∙ sym group-plain in
       λ i. record { plain = y i; unsettled = record { 0 = x i }; next = en i }
 
@@ -203,14 +203,14 @@ module _ (m role : ℕ) (h : Register) (g : ℕ) where
   group-read =
       subst (λ (ds : List Datum). marked (unsettledIn ds) (bits (width m) (plainOf ds)) ≡ ds) (sym group-marks)
       (subst (λ (w : ℕ). marked (unsettledIn ds₀) (bits w (plainOf ds₀)) ≡ ds₀) group-length
-      (read-marked (regLen m - h .held .0) (unmixed m role h (bits (width m) g)) (bits-unmixed m role h (bits (width m) g))))
+      (read-marked (capacity m - h .held .0) (unmixed m role h (bits (width m) g)) (bits-unmixed m role h (bits (width m) g))))
     where
       ds₀ : List Datum
-      ds₀ = marked (regLen m - h .held .0) (unmixed m role h (bits (width m) g))
+      ds₀ = marked (capacity m - h .held .0) (unmixed m role h (bits (width m) g))
 
 pub mixed-small : (m role n x : ℕ) → mixedAtOnce m role n x < 2 ^ width m
 unfolding mixedAtOnce
-mixed-small m role n x = mod-lt (bitXor (bitXor x (n / 2 ^ (nearTap m role - width m))) (n / 2 ^ (regLen m - width m))) (pow-pos (width m))
+mixed-small m role n x = mod-lt (bitXor (bitXor x (n / 2 ^ (nearTap m role - width m))) (n / 2 ^ (capacity m - width m))) (pow-pos (width m))
 
 -- a group's numbers are small, so that one byte holds both
 pub descrambled-small : (m role : ℕ) (h : Register) (g : ℕ) → (descrambled m role h g .plain < 16) × (descrambled m role h g .unsettled .0 ≤ 4)
@@ -220,7 +220,7 @@ descrambled-small m role h g =
     let u = group-unsettled m role h g in
     let w : 2 ^ width m ≤ 16 = by-all (λ (k : ℕ). 2 ^ k ≤ 16) 2 3 2 4 (omega arith) (omega arith) (omega arith) (omega arith) m in
     let a = mixed-small m role (h .bits) g in
-    let b = mod-le (mixedAtOnce m role (h .bits) g) (2 ^ (width m - (regLen m - h .held .0))) in
+    let b = mod-le (mixedAtOnce m role (h .bits) g) (2 ^ (width m - (capacity m - h .held .0))) in
     let r = width-range m .1 in
     (omega arith, omega arith)
 
@@ -230,18 +230,18 @@ all-small m role n g w all ew ea = subst⁻¹ (λ (k : ℕ). all < 2 ^ k) ew (su
 
 -- a group after a full register
 module _ (m role n g : ℕ) where
-  pub full-law : (w full low size next plain : ℕ) → w ≡ width m → full ≡ regLen m → low ≡ g % 2 ^ width m → size ≡ 2 ^ w → next ≡ (n * size + low) % 2 ^ regLen m
+  pub full-law : (w full low size next plain : ℕ) → w ≡ width m → full ≡ capacity m → low ≡ g % 2 ^ width m → size ≡ 2 ^ w → next ≡ (n * size + low) % 2 ^ capacity m
       → plain ≡ mixedAtOnce m role n g
-      → _≡_ {A = Descrambled} (record { plain = plain; unsettled = record { 0 = 0 }; next = register next full }) (descrambled m role (register n (regLen m)) g)
+      → _≡_ {A = Descrambled} (record { plain = plain; unsettled = record { 0 = 0 }; next = register next full }) (descrambled m role (register n (capacity m)) g)
   full-law w full low size next plain ew ef el es en ep =
-      let h : Register = register n (regLen m) in
+      let h : Register = register n (capacity m) in
       let small : plain < 2 ^ (w - 0) = subst⁻¹ (λ (k : ℕ). plain < 2 ^ k) (sub-zero w) (all-small m role n g w plain ew ep) in
-      let u : 0 ≡ min (full - regLen m) w = omega arith in
-      let k : full ≡ min (regLen m + w) full = omega arith in
+      let u : 0 ≡ min (full - capacity m) w = omega arith in
+      let k : full ≡ min (capacity m + w) full = omega arith in
       descramble-law m role h g w full 0 plain plain (register next full) ew ef u ep (sym (mod-eq-of-lt small)) (push-law m h g w full low size next full ew ef el es en k)
 
   -- its data bits are settled, and the register stays full
-  pub after-full : (descrambled m role (register n (regLen m)) g .unsettled .0 ≡ 0) × (descrambled m role (register n (regLen m)) g .next .held .0 ≡ regLen m)
+  pub after-full : (descrambled m role (register n (capacity m)) g .unsettled .0 ≡ 0) × (descrambled m role (register n (capacity m)) g .next .held .0 ≡ capacity m)
   after-full =
-      let e = full-law (width m) (regLen m) _ _ _ _ refl refl refl refl refl refl in
+      let e = full-law (width m) (capacity m) _ _ _ _ refl refl refl refl refl refl in
       (sym (ap (λ (d : Descrambled). d .unsettled .0) e), sym (ap (λ (d : Descrambled). d .next .held .0) e))

@@ -11,7 +11,7 @@ use lib.Dec.{T, leb, ltb, eqb, ltb→lt, leb→le, lt→ltb, le→leb, lit<}
 use lib.ListN.{length, getD}
 use lib.Pow.{pow-pos, pow-add, mod-mod-pow}
 use Rattle.line.specs.Table.{every}
-use Rattle.line.specs.Mode.{regLen}
+use Rattle.line.specs.Mode.{capacity}
 use Rattle.line.proofs.TableLaws.{and-left, and-right, and-intro}
 use Rattle.line.proofs.ByMode.{length-range}
 use Rattle.scrambler.specs.declared.Register.{Register}
@@ -29,10 +29,10 @@ mod-scale x c y n =
     let e : x * c + y ≡ x / n * c * n + (x % n * c + y) = omega (arith, ap (λ (z : ℕ). z * c) (sym (div-add-mod' x n))) in
     sym (ap (λ (z : ℕ). z % n) e ∙ mul-add-mod-self-right (x / n * c) n (x % n * c + y))
 
-pub push-group : (m : ℕ) (h : Register) (n g : ℕ) → pushes m h (bits (suc n) g) ≡ register ((h .bits * 2 ^ suc n + g % 2 ^ suc n) % 2 ^ regLen m) (min (h .held .0 + suc n) (regLen m))
+pub push-group : (m : ℕ) (h : Register) (n g : ℕ) → pushes m h (bits (suc n) g) ≡ register ((h .bits * 2 ^ suc n + g % 2 ^ suc n) % 2 ^ capacity m) (min (h .held .0 + suc n) (capacity m))
 unfolding push
 push-group m h zero g =
-    same-register _ _ (let e : h .bits * 2 + g / 2 ^ 0 % 2 ≡ h .bits * 2 ^ 1 + g % 2 ^ 1 = omega arith in ap (λ (x : ℕ). x % 2 ^ regLen m) e) refl
+    same-register _ _ (let e : h .bits * 2 + g / 2 ^ 0 % 2 ≡ h .bits * 2 ^ 1 + g % 2 ^ 1 = omega arith in ap (λ (x : ℕ). x % 2 ^ capacity m) e) refl
 push-group m h (suc n) g =
     let b : ℕ = bit (suc n) g in
     let k : ℕ = 2 ^ suc n in
@@ -40,8 +40,8 @@ push-group m h (suc n) g =
     let e : (x * 2 + b) * k + g % k ≡ x * 2 ^ suc (suc n) + g % 2 ^ suc (suc n) =
     omega (arith, mod-suc-pow (suc n) g, ap (λ (z : ℕ). x * z) (two-pow-succ (suc n))) in
     push-group m (push m h b) n g
-    ∙ same-register _ _ (mod-scale (x * 2 + b) k (g % k) (2 ^ regLen m) ∙ ap (λ (z : ℕ). z % 2 ^ regLen m) e)
-    (let z = length-range m .0 in let q : min (min (h .held .0 + 1) (regLen m) + suc n) (regLen m) ≡ min (h .held .0 + suc (suc n)) (regLen m) = omega arith in q)
+    ∙ same-register _ _ (mod-scale (x * 2 + b) k (g % k) (2 ^ capacity m) ∙ ap (λ (z : ℕ). z % 2 ^ capacity m) e)
+    (let z = length-range m .0 in let q : min (min (h .held .0 + 1) (capacity m) + suc n) (capacity m) ≡ min (h .held .0 + suc (suc n)) (capacity m) = omega arith in q)
 
 -- WHAT IT HOLDS
 
@@ -52,31 +52,31 @@ newestFirst older (b ∷ bs) = newestFirst (b ∷ older) bs
 
 -- the k-th of the newest line bits is the line bit k back, for k up to R; the count is theirs, up to R
 pub record Holds (m : ℕ) (h : Register) (newest : List ℕ) : Type 0 where
-  pub at : (k : ℕ) → 1 ≤ k → k ≤ regLen m → back k h ≡ getD newest (k - 1) 0
-  pub count : h .held .0 ≡ min (length newest) (regLen m)
+  pub at : (k : ℕ) → 1 ≤ k → k ≤ capacity m → back k h ≡ getD newest (k - 1) 0
+  pub count : h .held .0 ≡ min (length newest) (capacity m)
 
-back-push : (m : ℕ) (h : Register) (b k : ℕ) → b < 2 → suc k < regLen m → back (suc (suc k)) (push m h b) ≡ back (suc k) h
+back-push : (m : ℕ) (h : Register) (b k : ℕ) → b < 2 → suc k < capacity m → back (suc (suc k)) (push m h b) ≡ back (suc k) h
 unfolding back push
 back-push m h b k hb hk =
     let e : suc (suc k) - 1 ≡ suc k = omega arith in
     let f : suc k - 1 ≡ k = omega arith in
-    ap (λ (j : ℕ). bit j ((h .bits * 2 + b) % 2 ^ regLen m)) e
-    ∙ bit-mod (suc k) (regLen m) (h .bits * 2 + b) hk
+    ap (λ (j : ℕ). bit j ((h .bits * 2 + b) % 2 ^ capacity m)) e
+    ∙ bit-mod (suc k) (capacity m) (h .bits * 2 + b) hk
     ∙ bit-double k (h .bits) b hb
     ∙ ap (λ (j : ℕ). bit j (h .bits)) (sym f)
 
 back-new : (m : ℕ) (h : Register) (b : ℕ) → b < 2 → back 1 (push m h b) ≡ b
 unfolding back push
-back-new m h b hb = bit-mod 0 (regLen m) (h .bits * 2 + b) (let z = length-range m .0 in omega arith) ∙ bit-new (h .bits) b hb
+back-new m h b hb = bit-mod 0 (capacity m) (h .bits * 2 + b) (let z = length-range m .0 in omega arith) ∙ bit-new (h .bits) b hb
 
 holds-push : (m : ℕ) (h : Register) (b : ℕ) (newest : List ℕ) → b < 2 → Holds m h newest → Holds m (push m h b) (b ∷ newest)
 holds-push m h b newest hb p =
     record {
       at = places;
-      count = unfold push in (let z = p .count in let y : min (h .held .0 + 1) (regLen m) ≡ min (suc (length newest)) (regLen m) = omega arith in y);
+      count = unfold push in (let z = p .count in let y : min (h .held .0 + 1) (capacity m) ≡ min (suc (length newest)) (capacity m) = omega arith in y);
     }
   where
-    places : (k : ℕ) → 1 ≤ k → k ≤ regLen m → back k (push m h b) ≡ getD (b ∷ newest) (k - 1) 0
+    places : (k : ℕ) → 1 ≤ k → k ≤ capacity m → back k (push m h b) ≡ getD (b ∷ newest) (k - 1) 0
     places zero l r = absurd (omega arith)
     places (suc zero) l r = back-new m h b hb
     places (suc (suc k)) l r =
@@ -102,11 +102,11 @@ register-holds m bs t =
 
 -- WHAT NUMBER 4 ASKS
 
-pub ok-law : (m : ℕ) (h : Register) (full : ℕ) → full ≡ regLen m → h .held .0 ≤ full → eqb (h .bits / 2 ^ h .held .0) 0 ≡ registerOk m h
+pub ok-law : (m : ℕ) (h : Register) (full : ℕ) → full ≡ capacity m → h .held .0 ≤ full → eqb (h .bits / 2 ^ h .held .0) 0 ≡ registerOk m h
 unfolding registerOk
 ok-law m h full e l =
     below (h .bits) (2 ^ h .held .0) (pow-pos (h .held .0))
-    ∙ ap (λ (t : Bool). t && ltb (h .bits) (2 ^ h .held .0)) (sym (le-leb (h .held .0) (regLen m) (omega arith)))
+    ∙ ap (λ (t : Bool). t && ltb (h .bits) (2 ^ h .held .0)) (sym (le-leb (h .held .0) (capacity m) (omega arith)))
   where
     below : (x p : ℕ) → 0 < p → eqb (x / p) 0 ≡ ltb x p
     below x p q = go (decLt x p)
@@ -117,51 +117,51 @@ ok-law m h full e l =
             ne-eqb (x / p) 0 (λ z. h (let s = div-add-mod' x p in let r = mod-lt x q in let y : x / p * p ≡ 0 * p = ap (λ (n : ℕ). n * p) z in omega arith))
             ∙ sym (le-ltb x p (omega (arith, h)))
 
-pub not-ok-law : (m : ℕ) (h : Register) (full : ℕ) → full ≡ regLen m → full < h .held .0 → false ≡ registerOk m h
+pub not-ok-law : (m : ℕ) (h : Register) (full : ℕ) → full ≡ capacity m → full < h .held .0 → false ≡ registerOk m h
 unfolding registerOk
-not-ok-law m h full e l = ap (λ (t : Bool). t && ltb (h .bits) (2 ^ h .held .0)) (sym (lt-leb (h .held .0) (regLen m) (omega arith)))
+not-ok-law m h full e l = ap (λ (t : Bool). t && ltb (h .bits) (2 ^ h .held .0)) (sym (lt-leb (h .held .0) (capacity m) (omega arith)))
 
 -- a register that number 4 lets pass
 pub record Ok (m : ℕ) (h : Register) : Type 0 where
   pub small : h .bits < 2 ^ h .held .0
-  pub most : h .held .0 ≤ regLen m
+  pub most : h .held .0 ≤ capacity m
 
 pub ok : (m : ℕ) (h : Register) → T (registerOk m h) → Ok m h
 unfolding registerOk
 ok m h t =
     record {
-      small = ltb→lt _ _ (and-right (leb (h .held .0) (regLen m)) (ltb (h .bits) (2 ^ h .held .0)) t);
-      most = leb→le _ _ (and-left (leb (h .held .0) (regLen m)) (ltb (h .bits) (2 ^ h .held .0)) t);
+      small = ltb→lt _ _ (and-right (leb (h .held .0) (capacity m)) (ltb (h .bits) (2 ^ h .held .0)) t);
+      most = leb→le _ _ (and-left (leb (h .held .0) (capacity m)) (ltb (h .bits) (2 ^ h .held .0)) t);
     }
 
 pub passes : (m : ℕ) (h : Register) → Ok m h → T (registerOk m h)
 unfolding registerOk
-passes m h p = and-intro (leb (h .held .0) (regLen m)) _ (le→leb _ _ (p .most)) (lt→ltb _ _ (p .small))
+passes m h p = and-intro (leb (h .held .0) (capacity m)) _ (le→leb _ _ (p .most)) (lt→ltb _ _ (p .small))
 
 pub ok-fresh : (m : ℕ) → Ok m fresh
 ok-fresh m = record { small = omega arith; most = omega arith }
 
 pub ok-push : (m : ℕ) (h : Register) (b : ℕ) → b < 2 → Ok m h → Ok m (push m h b)
 unfolding push
-ok-push m h b hb p = go (decLt (h .held .0) (regLen m))
+ok-push m h b hb p = go (decLt (h .held .0) (capacity m))
   where
     x : ℕ
     x = h .bits * 2 + b
 
-    go : Dec (h .held .0 < regLen m) → Ok m (push m h b)
+    go : Dec (h .held .0 < capacity m) → Ok m (push m h b)
     go (yes l) =
-        let e : min (h .held .0 + 1) (regLen m) ≡ suc (h .held .0) = omega arith in
+        let e : min (h .held .0 + 1) (capacity m) ≡ suc (h .held .0) = omega arith in
         record {
-          small = subst (λ (n : ℕ). (h .bits * 2 + b) % 2 ^ regLen m < 2 ^ n) (sym e)
-              (mod-below (h .bits * 2 + b) (2 ^ regLen m) (2 ^ suc (h .held .0)) (let s = p .small in omega (arith, two-pow-succ (h .held .0))));
+          small = subst (λ (n : ℕ). (h .bits * 2 + b) % 2 ^ capacity m < 2 ^ n) (sym e)
+              (mod-below (h .bits * 2 + b) (2 ^ capacity m) (2 ^ suc (h .held .0)) (let s = p .small in omega (arith, two-pow-succ (h .held .0))));
           most = omega arith;
         }
       where
         mod-below : (n k l : ℕ) → n < l → n % k < l
         mod-below n k l h = let z = mod-le n k in omega arith
     go (no l) =
-        let e : min (h .held .0 + 1) (regLen m) ≡ regLen m = omega (arith, l) in
-        record { small = subst (λ (n : ℕ). (h .bits * 2 + b) % 2 ^ regLen m < 2 ^ n) (sym e) (mod-lt (h .bits * 2 + b) (pow-pos (regLen m))); most = omega arith }
+        let e : min (h .held .0 + 1) (capacity m) ≡ capacity m = omega (arith, l) in
+        record { small = subst (λ (n : ℕ). (h .bits * 2 + b) % 2 ^ capacity m < 2 ^ n) (sym e) (mod-lt (h .bits * 2 + b) (pow-pos (capacity m))); most = omega arith }
 
 pub ok-pushes : (m : ℕ) (h : Register) (bs : List ℕ) → T (every isBit bs) → Ok m h → Ok m (pushes m h bs)
 unfolding isBit
@@ -170,11 +170,11 @@ ok-pushes m h (b ∷ bs) t p =
     ok-pushes m (push m h b) bs (and-right (ltb b 2) (every isBit bs) t) (ok-push m h b (ltb→lt b 2 (and-left (ltb b 2) (every isBit bs) t)) p)
 
 -- a register that is full stays full
-pub full-push : (m : ℕ) (h : Register) (b : ℕ) → regLen m ≤ h .held .0 → regLen m ≤ push m h b .held .0
+pub full-push : (m : ℕ) (h : Register) (b : ℕ) → capacity m ≤ h .held .0 → capacity m ≤ push m h b .held .0
 unfolding push
 full-push m h b p = omega arith
 
-pub full-pushes : (m : ℕ) (h : Register) (bs : List ℕ) → regLen m ≤ h .held .0 → regLen m ≤ pushes m h bs .held .0
+pub full-pushes : (m : ℕ) (h : Register) (bs : List ℕ) → capacity m ≤ h .held .0 → capacity m ≤ pushes m h bs .held .0
 full-pushes m h [] p = p
 full-pushes m h (b ∷ bs) p = full-pushes m (push m h b) bs (full-push m h b p)
 
@@ -183,12 +183,12 @@ full-pushes m h (b ∷ bs) p = full-pushes m (push m h b) bs (full-push m h b p)
 -- two registers whose newest k line bits agree, after at least one push
 record Agree (m k : ℕ) (h h′ : Register) : Type 0 where
   newest : h .bits % 2 ^ k ≡ h′ .bits % 2 ^ k
-  held : min k (regLen m) ≤ h .held .0
-  held′ : min k (regLen m) ≤ h′ .held .0
-  most : h .held .0 ≤ regLen m
-  most′ : h′ .held .0 ≤ regLen m
-  small : h .bits < 2 ^ regLen m
-  small′ : h′ .bits < 2 ^ regLen m
+  held : min k (capacity m) ≤ h .held .0
+  held′ : min k (capacity m) ≤ h′ .held .0
+  most : h .held .0 ≤ capacity m
+  most′ : h′ .held .0 ≤ capacity m
+  small : h .bits < 2 ^ capacity m
+  small′ : h′ .bits < 2 ^ capacity m
 
 mod-double : (k x : ℕ) → (x * 2) % 2 ^ suc k ≡ x % 2 ^ k * 2
 mod-double k x =
@@ -218,35 +218,35 @@ mod-swap i j y = go (decLe i j)
     go (yes h) = mod-small i j y h ∙ sym (mod-large i j y h)
     go (no h) = let k : j ≤ i = omega arith in mod-large j i y k ∙ sym (mod-small j i y k)
 
-agree-push : (m k : ℕ) (h h′ : Register) (b : ℕ) → h .bits % 2 ^ k ≡ h′ .bits % 2 ^ k → min k (regLen m) ≤ h .held .0 → min k (regLen m) ≤ h′ .held .0
+agree-push : (m k : ℕ) (h h′ : Register) (b : ℕ) → h .bits % 2 ^ k ≡ h′ .bits % 2 ^ k → min k (capacity m) ≤ h .held .0 → min k (capacity m) ≤ h′ .held .0
     → Agree m (suc k) (push m h b) (push m h′ b)
 unfolding push
 agree-push m k h h′ b e p p′ =
     record {
-      newest = mod-swap (regLen m) (suc k) (h .bits * 2 + b) ∙ ap (λ (n : ℕ). n % 2 ^ regLen m) (agree-double k (h .bits) (h′ .bits) b e)
-          ∙ sym (mod-swap (regLen m) (suc k) (h′ .bits * 2 + b));
+      newest = mod-swap (capacity m) (suc k) (h .bits * 2 + b) ∙ ap (λ (n : ℕ). n % 2 ^ capacity m) (agree-double k (h .bits) (h′ .bits) b e)
+          ∙ sym (mod-swap (capacity m) (suc k) (h′ .bits * 2 + b));
       held = omega arith;
       held′ = omega arith;
       most = omega arith;
       most′ = omega arith;
-      small = mod-lt (h .bits * 2 + b) (pow-pos (regLen m));
-      small′ = mod-lt (h′ .bits * 2 + b) (pow-pos (regLen m));
+      small = mod-lt (h .bits * 2 + b) (pow-pos (capacity m));
+      small′ = mod-lt (h′ .bits * 2 + b) (pow-pos (capacity m));
     }
 
-agree-all : (m k : ℕ) (h h′ : Register) → regLen m ≤ k → Agree m k h h′ → h ≡ h′
+agree-all : (m k : ℕ) (h h′ : Register) → capacity m ≤ k → Agree m k h h′ → h ≡ h′
 agree-all m k h h′ r a =
-    let w : 2 ^ regLen m ≤ 2 ^ k = pow-le-pow-right (lit< tt) r in
+    let w : 2 ^ capacity m ≤ 2 ^ k = pow-le-pow-right (lit< tt) r in
     same-register h h′
     (sym (mod-eq-of-lt (le-trans (a .small) w)) ∙ a .newest ∙ mod-eq-of-lt (le-trans (a .small′) w))
     (let x = a .held in let y = a .held′ in let u = a .most in let v = a .most′ in omega arith)
 
-agree-pushes : (m k : ℕ) (h h′ : Register) (bs : List ℕ) → regLen m ≤ k + length bs → Agree m k h h′ → pushes m h bs ≡ pushes m h′ bs
+agree-pushes : (m k : ℕ) (h h′ : Register) (bs : List ℕ) → capacity m ≤ k + length bs → Agree m k h h′ → pushes m h bs ≡ pushes m h′ bs
 agree-pushes m k h h′ [] r a = agree-all m k h h′ (omega arith) a
 agree-pushes m k h h′ (b ∷ bs) r a =
     agree-pushes m (suc k) (push m h b) (push m h′ b) bs (omega arith) (agree-push m k h h′ b (a .newest) (a .held) (a .held′))
 
 -- after R equal line bits two registers are equal, whatever they held
-pub same-after : (m : ℕ) (h h′ : Register) (bs : List ℕ) → regLen m ≤ length bs → pushes m h bs ≡ pushes m h′ bs
+pub same-after : (m : ℕ) (h h′ : Register) (bs : List ℕ) → capacity m ≤ length bs → pushes m h bs ≡ pushes m h′ bs
 same-after m h h′ [] r = absurd (let z = length-range m .0 in omega arith)
 same-after m h h′ (b ∷ bs) r =
     agree-pushes m 1 (push m h b) (push m h′ b) bs (omega arith) (agree-push m 0 h h′ b (omega arith) (omega arith) (omega arith))

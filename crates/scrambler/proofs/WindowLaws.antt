@@ -10,7 +10,7 @@ use lib.Bits.{bitXor, xor-shr, xor-mod}
 use lib.Dec.{T, leb}
 use lib.ListN.{length, getD}
 use Rattle.line.specs.Table.{every}
-use Rattle.line.specs.Mode.{width, regLen}
+use Rattle.line.specs.Mode.{width, capacity}
 use Rattle.line.proofs.ByMode.{mode-short, mode-long, by-all, width-range}
 use Rattle.scrambler.specs.declared.Register.{Register}
 use Rattle.scrambler.specs.Bits.{bits, value}
@@ -32,20 +32,20 @@ tap-low : (m role : ℕ) → 5 ≤ nearTap m role
 unfolding nearTap
 tap-low m role = by-all (λ (n : ℕ). 5 ≤ n) 6 6 (farTap role) (farTap role) (omega arith) (omega arith) (far-tap role .0) (far-tap role .0) m
 
-tap-high : (m role : ℕ) → nearTap m role ≤ regLen m
-unfolding nearTap regLen
+tap-high : (m role : ℕ) → nearTap m role ≤ capacity m
+unfolding nearTap capacity
 tap-high m role = go (decLe m 2)
   where
-    go : Dec (m ≤ 2) → nearTap m role ≤ regLen m
-    go (yes h) = let a : nearTap m role ≡ 6 = mode-short 6 (farTap role) m h in let r : regLen m ≡ 7 = mode-short 7 23 m h in omega arith
+    go : Dec (m ≤ 2) → nearTap m role ≤ capacity m
+    go (yes h) = let a : nearTap m role ≡ 6 = mode-short 6 (farTap role) m h in let r : capacity m ≡ 7 = mode-short 7 23 m h in omega arith
     go (no h) =
         let k : 2 < m = omega (arith, h) in
         let a : nearTap m role ≡ farTap role = mode-long 6 (farTap role) m k in
-        let r : regLen m ≡ 23 = mode-long 7 23 m k in
+        let r : capacity m ≡ 23 = mode-long 7 23 m k in
         let z = far-tap role .1 in omega arith
 
 -- the taps lie behind a group, and within the register
-pub tap-range : (m role : ℕ) → (width m ≤ nearTap m role) × (nearTap m role ≤ regLen m)
+pub tap-range : (m role : ℕ) → (width m ≤ nearTap m role) × (nearTap m role ≤ capacity m)
 tap-range m role =
     (let w = width-range m .1 in let a = tap-low m role in omega arith, tap-high m role)
 
@@ -89,13 +89,13 @@ row-value (suc k) g p q =
     rw (length-row k g p q, row-value k g p q, ← e) (sym (mod-suc-pow k (bitXor (bitXor g p) q)))
 
 -- what stood at a window is one further after a push
-window-push : (m : ℕ) (h : Register) (b t k i : ℕ) → b < 2 → suc k ≤ t → t ≤ regLen m → i < k
+window-push : (m : ℕ) (h : Register) (b t k i : ℕ) → b < 2 → suc k ≤ t → t ≤ capacity m → i < k
     → bit i (push m h b .bits / 2 ^ (t - k)) ≡ bit i (h .bits / 2 ^ (t - suc k))
 unfolding push
 window-push m h b t k i hb ht hr hi =
     let e : t - k + i ≡ suc (t - suc k + i) = omega arith in
     bit-shift i (t - k) _
-    ∙ bit-mod (t - k + i) (regLen m) (h .bits * 2 + b) (omega arith)
+    ∙ bit-mod (t - k + i) (capacity m) (h .bits * 2 + b) (omega arith)
     ∙ ap (λ (j : ℕ). bit j (h .bits * 2 + b)) e
     ∙ bit-double (t - suc k + i) (h .bits) b hb
     ∙ sym (bit-shift i (t - suc k) (h .bits))
@@ -119,19 +119,19 @@ module _ (m role : ℕ) where
   window h t n = h .bits / 2 ^ (t - n)
 
   abbrev rowOf : Register → ℕ → ℕ → List ℕ
-  rowOf h n g = mixRow n g (window h (nearTap m role) n) (window h (regLen m) n)
+  rowOf h n g = mixRow n g (window h (nearTap m role) n) (window h (capacity m) n)
 
-  row-head : (h : Register) (k g : ℕ) → suc k ≤ nearTap m role → mix m role h (bit k g) ≡ (bit k g + bit k (window h (nearTap m role) (suc k)) + bit k (window h (regLen m) (suc k))) % 2
+  row-head : (h : Register) (k g : ℕ) → suc k ≤ nearTap m role → mix m role h (bit k g) ≡ (bit k g + bit k (window h (nearTap m role) (suc k)) + bit k (window h (capacity m) (suc k))) % 2
   unfolding mix
   row-head h k g ht =
       ap₂ (λ (x y : ℕ). (bit k g + x + y) % 2) (window-top h (nearTap m role) k ht)
-      (window-top h (regLen m) k (let z = tap-range m role .1 in omega arith))
+      (window-top h (capacity m) k (let z = tap-range m role .1 in omega arith))
 
   row-tail : (h : Register) (b k g : ℕ) → b < 2 → suc k ≤ nearTap m role
-      → rowOf (push m h b) k g ≡ mixRow k g (window h (nearTap m role) (suc k)) (window h (regLen m) (suc k))
+      → rowOf (push m h b) k g ≡ mixRow k g (window h (nearTap m role) (suc k)) (window h (capacity m) (suc k))
   row-tail h b k g hb ht =
       let z = tap-range m role .1 in
-      row-same k g _ _ _ _ (λ i hi. window-push m h b (nearTap m role) k i hb ht z hi) (λ i hi. window-push m h b (regLen m) k i hb (omega arith) (omega arith) hi)
+      row-same k g _ _ _ _ (λ i hi. window-push m h b (nearTap m role) k i hb ht z hi) (λ i hi. window-push m h b (capacity m) k i hb (omega arith) (omega arith) hi)
 
   scramble-row : (h : Register) (n g : ℕ) → n ≤ nearTap m role → scramble m role h (bits n g) ≡ rowOf h n g
   unfolding mixRow
@@ -148,7 +148,7 @@ module _ (m role : ℕ) where
 
   at-once : (h : Register) (g : ℕ) → value (rowOf h (width m) g) ≡ mixedAtOnce m role (h .bits) g
   unfolding mixedAtOnce
-  at-once h g = row-value (width m) g (window h (nearTap m role) (width m)) (window h (regLen m) (width m))
+  at-once h g = row-value (width m) g (window h (nearTap m role) (width m)) (window h (capacity m) (width m))
 
   pub scramble-at-once : (h : Register) (g : ℕ) → value (scramble m role h (bits (width m) g)) ≡ mixedAtOnce m role (h .bits) g
   scramble-at-once h g = ap value (scramble-row h (width m) g (tap-range m role .0)) ∙ at-once h g

@@ -6,7 +6,7 @@ use mathlib.Core.Bool.{Bool, _&&_}
 use mathlib.Core.List.{List, [], _∷_}
 use lib.Dec.{leb, ltb}
 use lib.ListN.{getD}
-use Rattle.line.specs.Mode.{byMode, regLen}
+use Rattle.line.specs.Mode.{byMode, capacity}
 use Rattle.scrambler.specs.declared.Register.{Register}
 
 abbrev pub register : ℕ → ℕ → Register
@@ -26,7 +26,7 @@ nearTap m role = byMode m 6 6 (getD (18 ∷ 5 ∷ []) role 5) (getD (18 ∷ 5 �
 
 -- the register after one line bit, and after several
 unfoldable pub push : ℕ → Register → ℕ → Register
-push m h b = register ((h .bits * 2 + b) % 2 ^ regLen m) (min (h .held .0 + 1) (regLen m))
+push m h b = register ((h .bits * 2 + b) % 2 ^ capacity m) (min (h .held .0 + 1) (capacity m))
 
 abbrev pub pushes : ℕ → Register → List ℕ → Register
 pushes m h [] = h
@@ -34,4 +34,4 @@ pushes m h (b ∷ bs) = pushes m (push m h b) bs
 
 -- at most R line bits, and none set beyond them
 unfoldable pub registerOk : ℕ → Register → Bool
-registerOk m h = leb (h .held .0) (regLen m) && ltb (h .bits) (2 ^ h .held .0)
+registerOk m h = leb (h .held .0) (capacity m) && ltb (h .bits) (2 ^ h .held .0)

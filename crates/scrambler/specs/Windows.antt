@@ -3,8 +3,8 @@
 -- and what `descramble` xors.
 use Prim.Native.Nat.{ℕ, _-_, _^_, _/_, _%_}
 use lib.Bits.{bitXor}
-use Rattle.line.specs.Mode.{width, regLen}
+use Rattle.line.specs.Mode.{width, capacity}
 use Rattle.scrambler.specs.Register.{nearTap}
 
 unfoldable pub mixedAtOnce : ℕ → ℕ → ℕ → ℕ → ℕ
-mixedAtOnce m role n x = bitXor (bitXor x (n / 2 ^ (nearTap m role - width m))) (n / 2 ^ (regLen m - width m)) % 2 ^ width m
+mixedAtOnce m role n x = bitXor (bitXor x (n / 2 ^ (nearTap m role - width m))) (n / 2 ^ (capacity m - width m)) % 2 ^ width m

@@ -1,7 +1,7 @@
 // The scrambler's register, and scrambling and descrambling the bits of a point: document 01.
 ghost use mathlib.Core.Path.{_≡_};
 ghost use Prim.Native.Nat.{ℕ, _-_, _^_, _%_, _≤_, _<_, min};
-ghost use Rattle.line.specs.Mode.{width, regLen};
+ghost use Rattle.line.specs.Mode.{width, capacity};
 ghost use Rattle.scrambler.specs.Bits.{bits, value};
 ghost use Rattle.scrambler.specs.Register.{register, fresh, nearTap, pushes, registerOk};
 ghost use Rattle.scrambler.specs.Group.{scrambled, descrambled};
@@ -45,7 +45,7 @@ pub fn register_ok(mode: u8, h: Register) -> bool
 {
     let held = h.held.0;
     let bits = h.bits;
-    if held <= line::length_of(mode) {
+    if held <= line::capacity_of(mode) {
         bits >> (held as u32) == 0
     } else {
         false
@@ -84,7 +84,7 @@ fn low_bits(mode: u8, x: u32) -> u8
 
 // The lowest R bits of a number.
 fn keep_bits(mode: u8, x: u64) -> u32
-    ensures { λ r. ⌜ r ≡ x % 2 ^ regLen mode ⌝ }
+    ensures { λ r. ⌜ r ≡ x % 2 ^ capacity mode ⌝ }
 {
     if mode <= 2 {
         (x % 128) as u32
@@ -100,7 +100,7 @@ fn mixed(mode: u8, role: u8, n: u32, x: u8) -> u8
 {
     let w = line::width_of(mode);
     let near = (near_tap(mode, role) - w) as u32;
-    let far = (line::length_of(mode) - w) as u32;
+    let far = (line::capacity_of(mode) - w) as u32;
     low_bits(mode, (x as u32) ^ (n >> near) ^ (n >> far))
 }
 
@@ -111,7 +111,7 @@ fn push_group(mode: u8, h: Register, g: u8) -> Register
     let n = h.bits as u64;
     let held = h.held.0;
     let w = line::width_of(mode);
-    let full = line::length_of(mode);
+    let full = line::capacity_of(mode);
     let low = low_bits(mode, g as u32) as u64;
     let next = keep_bits(mode, n * group_size(w) + low);
     if full - w <= held {
@@ -187,7 +187,7 @@ pub fn descramble_group(mode: u8, role: u8, h: Register, line: u8) -> Descramble
 {
     let held = h.held.0;
     let w = line::width_of(mode);
-    let u = unsettled_bits(w, line::length_of(mode), held);
+    let u = unsettled_bits(w, line::capacity_of(mode), held);
     let all = mixed(mode, role, h.bits, line);
     Descrambled {
         plain: without_first(w, u, all),
@@ -199,7 +199,7 @@ pub fn descramble_group(mode: u8, role: u8, h: Register, line: u8) -> Descramble
 // The same after a full register of bits n, as nearly all points of a block find it: nothing is counted. It has one caller, the loop
 // over such points: a large function is put in line only there.
 pub fn descramble_next(mode: u8, role: u8, n: u32, line: u8) -> Descrambled
-    ensures { λ r. ⌜ r ≡ descrambled mode role (register n (regLen mode)) line ⌝ }
+    ensures { λ r. ⌜ r ≡ descrambled mode role (register n (capacity mode)) line ⌝ }
 {
     let low = low_bits(mode, line as u32) as u64;
     let bits = keep_bits(mode, (n as u64) * group_size(line::width_of(mode)) + low);
@@ -208,7 +208,7 @@ pub fn descramble_next(mode: u8, role: u8, n: u32, line: u8) -> Descrambled
         unsettled: BitCount(0),
         next: Register {
             bits,
-            held: BitCount(line::length_of(mode)),
+            held: BitCount(line::capacity_of(mode)),
         },
     }
 }

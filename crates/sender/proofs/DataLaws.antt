@@ -14,7 +14,7 @@ use Rattle.line.specs.declared.Point.{Point}
 use Rattle.deciding.specs.declared.Decision.{Decision}
 use Rattle.deciding.specs.declared.Decision.the-variants.{State, Origin, NoSector}
 use Rattle.line.specs.Table.{every}
-use Rattle.line.specs.Mode.{isMode, width, regLen, face}
+use Rattle.line.specs.Mode.{isMode, width, capacity, face}
 use Rattle.line.specs.Point.{at, sentPoint}
 use Rattle.deciding.specs.Decide.{decide, stateIn}
 use Rattle.coding.specs.Code.{coded, group}
@@ -191,7 +191,7 @@ made-data m role s (d ∷ ds) em er k =
     subst₂ (λ (n r : ℕ). bits (width n) (group n (face n (s .reference)) (t .reference)) ≡ scramble n r (s .line) g) em er (group-read s g (k .0) l) in
     let z : pushes m (s .line) b ≡ t .line =
     subst₂ (λ (n r : ℕ). pushes n (s .line) (scramble n r (s .line) g) ≡ t .line) em er (sym (group-line s g (k .0) l)) in
-    let f : regLen m ≤ s .line .held .0 = subst (λ (n : ℕ). regLen n ≤ s .line .held .0) em (le-of-eq (sym (can-send s (k .0 .fields) .full))) in
+    let f : capacity m ≤ s .line .held .0 = subst (λ (n : ℕ). capacity n ≤ s .line .held .0) em (le-of-eq (sym (can-send s (k .0 .fields) .full))) in
     let u : descramble m role (s .line) b ≡ map settled g = unscramble m role (s .line) g f (k .2) in
     let i : descramble m role (t .line) (lineBits m (t .reference) (statesOf m ds)) ≡ map settled (given ds) =
     made-data m role t ds (group-mode s g ∙ em) (group-role s g ∙ er) (k .4) in

@@ -11,7 +11,7 @@ use lib.Dec.{T, leb, ltb, eqb, leb→le, eqb→eq}
 use lib.ListN.{length, getD, drop, drop-of-length-le}
 use lib.Seq.{drop-cons}
 use Rattle.line.specs.Table.{every}
-use Rattle.line.specs.Mode.{isMode, isRole, isState, width, regLen}
+use Rattle.line.specs.Mode.{isMode, isRole, isState, width, capacity}
 use Rattle.line.specs.Refusal.{need, orNext, accepted}
 use Rattle.line.proofs.RefusalLaws.{need-met, need-rest, next-first, next-rest}
 use Rattle.scrambler.specs.Bits.{isBit}
@@ -56,15 +56,15 @@ second-refusal n a b k e f g = g ∙ ap (λ (i : ℕ). orNext i b) (sym f ∙ e)
 pub not-a-state : (s : Sender) (r : Bool) → r ≡ isState (s .mode) (s .reference) → not r ≡ true → false ≡ fieldsOk s
 unfolding fieldsOk
 not-a-state s r e f =
-    ap (λ (t : Bool). t && (eqb (s .line .held .0) (regLen (s .mode)) && registerOk (s .mode) (s .line))) (sym (not-true r f) ∙ e)
+    ap (λ (t : Bool). t && (eqb (s .line .held .0) (capacity (s .mode)) && registerOk (s .mode) (s .line))) (sym (not-true r f) ∙ e)
 
-pub not-full : (s : Sender) (r : Bool) (n : ℕ) → r ≡ isState (s .mode) (s .reference) → not r ≡ false → n ≡ regLen (s .mode) → (s .line .held .0 ≡ n → ⊥)
+pub not-full : (s : Sender) (r : Bool) (n : ℕ) → r ≡ isState (s .mode) (s .reference) → not r ≡ false → n ≡ capacity (s .mode) → (s .line .held .0 ≡ n → ⊥)
     → false ≡ fieldsOk s
 unfolding fieldsOk
 not-full s r n e f g h =
     ap₂ (λ (t u : Bool). t && (u && registerOk (s .mode) (s .line))) (sym (not-false r f) ∙ e) (sym (ne-eqb _ _ (λ z. h (z ∙ sym g))))
 
-pub full-fields : (s : Sender) (r x : Bool) (n : ℕ) → r ≡ isState (s .mode) (s .reference) → not r ≡ false → n ≡ regLen (s .mode) → s .line .held .0 ≡ n
+pub full-fields : (s : Sender) (r x : Bool) (n : ℕ) → r ≡ isState (s .mode) (s .reference) → not r ≡ false → n ≡ capacity (s .mode) → s .line .held .0 ≡ n
     → x ≡ registerOk (s .mode) (s .line) → x ≡ fieldsOk s
 unfolding fieldsOk
 full-fields s r x n e f g h k =

@@ -9,7 +9,7 @@ use borrow.Author.Tests.{eq-eqb}
 use lib.Dec.{T, eqb, eqb→eq}
 use lib.ListN.{length, take, drop, length-take, length-drop}
 use Rattle.line.specs.Table.{every}
-use Rattle.line.specs.Mode.{isMode, isRole, isState, width, regLen}
+use Rattle.line.specs.Mode.{isMode, isRole, isState, width, capacity}
 use Rattle.line.specs.Refusal.{need, accepted}
 use Rattle.line.proofs.TableLaws.{and-left, and-right, and-intro}
 use Rattle.line.proofs.RefusalLaws.{need-intro}
@@ -34,7 +34,7 @@ use Rattle.sender.proofs.OpenLaws.{open-ok}
 pub can-send : (s : Sender) → T (fieldsOk s) → CanSend (s .mode) (coderOf s)
 unfolding fieldsOk
 can-send s t =
-    let full : Bool = eqb (s .line .held .0) (regLen (s .mode)) in
+    let full : Bool = eqb (s .line .held .0) (capacity (s .mode)) in
     let u = and-right (isState (s .mode) (s .reference)) (full && registerOk (s .mode) (s .line)) t in
     record {
       state = and-left (isState (s .mode) (s .reference)) _ t;
@@ -46,7 +46,7 @@ fields-pass : (m role : ℕ) (c : Coder) → CanSend m c → T (fieldsOk (sender
 unfolding fieldsOk
 fields-pass m role c k =
     and-intro (isState m (c .reference)) _ (k .state)
-    (and-intro (eqb (c .line .held .0) (regLen m)) _ (subst T (sym (eq-eqb (c .line .held .0) (regLen m) (k .full))) tt) (passes m (c .line) (k .fit)))
+    (and-intro (eqb (c .line .held .0) (capacity m)) _ (subst T (sym (eq-eqb (c .line .held .0) (capacity m) (k .full))) tt) (passes m (c .line) (k .fit)))
 
 state-passes : (m role : ℕ) (c : Coder) → T (isMode m) → T (isRole m role) → CanSend m c → stateRefusal (senderOf m role c) ≡ 0
 unfolding stateRefusal

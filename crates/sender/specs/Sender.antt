@@ -7,7 +7,7 @@ use lib.IntN.{ℤ}
 use lib.ListN.{length, take, drop}
 use lib.Seq.{sets}
 use Rattle.line.specs.Table.{every}
-use Rattle.line.specs.Mode.{isMode, isRole, isState, width, regLen}
+use Rattle.line.specs.Mode.{isMode, isRole, isState, width, capacity}
 use Rattle.line.specs.Refusal.{need, orNext, accepted}
 use Rattle.scrambler.specs.Bits.{isBit}
 use Rattle.scrambler.specs.Register.{registerOk}
@@ -26,7 +26,7 @@ senderOf m role c = record { mode = m; role = role; reference = c .reference; li
 
 -- number 4: "reference not a state of the mode, more than R line bits, in a sender fewer than R"
 unfoldable pub fieldsOk : Sender → Bool
-fieldsOk s = isState (s .mode) (s .reference) && (eqb (s .line .held .0) (regLen (s .mode)) && registerOk (s .mode) (s .line))
+fieldsOk s = isState (s .mode) (s .reference) && (eqb (s .line .held .0) (capacity (s .mode)) && registerOk (s .mode) (s .line))
 
 -- the numbers about a handed-in state
 unfoldable pub stateRefusal : Sender → ℕ

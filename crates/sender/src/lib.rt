@@ -36,7 +36,7 @@ fn fields_ok(s: Sender) -> bool
     if !line::state_ok(s.mode, s.reference) {
         return false;
     }
-    if held.0 != line::length_of(s.mode) {
+    if held.0 != line::capacity_of(s.mode) {
         return false;
     }
     scrambler::register_ok(s.mode, register)

@@ -19,13 +19,15 @@ use Rattle.octets.proofs.Tests.{and-split}
 use Rattle.octets.proofs.Sets.{sets-then}
 use Rattle.store.specs.Chain.{walk, gather}
 use Rattle.store.specs.Layout.{Event, point, lost, count, rec, next, kind, held, isPoints, points, recordOk, eventsOf}
-use Rattle.store.specs.Store.{need, orElse, chain, events, refusal}
+use Rattle.line.specs.Refusal.{need, orNext}
+use Rattle.store.specs.Store.{chain, events, refusal}
 use Rattle.store.specs.Reading.{numbers, readNumber, readCount, readResult}
 use Rattle.store.specs.Walk.{Sized}
 use Rattle.store.proofs.Chains.{All, ends, run-ends, run-short}
 use Rattle.store.proofs.Going.{walk-step, walk-zero, ends-step}
 use Rattle.store.proofs.PointRuns.{point-at, drop-next}
-use Rattle.store.proofs.Sounds.{Sound, accepted-sound, or-some}
+use Rattle.line.proofs.RefusalLaws.{or-some}
+use Rattle.store.proofs.Sounds.{Sound, accepted-sound}
 
 -- ---- the chain
 -- what is left of the chain after k records, at index i
@@ -230,8 +232,8 @@ pub read-refused : (s : List ℕ) (out : List ℤ) (offset n : ℕ) → offset �
 unfolding readNumber readCount readResult
 read-refused s out offset n h e nz =
     let t : leb offset (length out) ≡ true = le-leb offset (length out) h in
-    let q : orElse (refusal s) (need (leb (offset + 3 * length (events s)) (length out)) 7 0) ≡ n =
-    ap (λ (x : ℕ). orElse x (need (leb (offset + 3 * length (events s)) (length out)) 7 0)) (sym e)
+    let q : orNext (refusal s) (need (leb (offset + 3 * length (events s)) (length out)) 7 0) ≡ n =
+    ap (λ (x : ℕ). orNext x (need (leb (offset + 3 * length (events s)) (length out)) 7 0)) (sym e)
     ∙ sym (or-some n (need (leb (offset + 3 * length (events s)) (length out)) 7 0) nz) in
     (rw (t, q), rw (t, q, ne-eqb n 0 nz), rw (t, q, ne-eqb n 0 nz))
 

@@ -7,30 +7,14 @@ use native.Mathlib.Omega.{arith}
 use borrow.Author.Tests.{eqb-true, eq-eqb, leb-true, le-leb}
 use lib.Dec.{eqb, leb}
 use lib.ListN.{length}
-use Rattle.line.proofs.RefusalLaws.{next-first, next-rest}
+use Rattle.line.proofs.RefusalLaws.{need-zero}
 use Rattle.octets.proofs.Tests.{and-split}
 use Rattle.store.specs.Chain.{all, distinct, greatest, lastOf, sumOver}
 use Rattle.store.specs.Layout.{count, rec, next, recordOk, spanOf}
-use Rattle.store.specs.Store.{need, orElse, chain, lastIn, total, sizeOk, headOk, chainOk, recordsOk, totalOk, refusal}
+use Rattle.line.specs.Refusal.{need, orNext}
+use Rattle.store.specs.Store.{chain, lastIn, total, sizeOk, headOk, chainOk, recordsOk, totalOk, refusal}
 use Rattle.store.specs.Walk.{Sized}
 use Rattle.store.proofs.Chains.{All, Run, all-true, true-all, walk-run, run-short, sound-run, run-sound, last-all, greatest-below}
-
--- a chain of needs that gives 0
-pub need-zero : (b : Bool) (n rest : ℕ) → 0 < n → need b n rest ≡ 0 → (b ≡ true) × (rest ≡ 0)
-need-zero true n rest h e = (refl, e)
-need-zero false n rest h e = absurd (omega arith)
-
--- ---- the first of two numbers
-pub or-some : (a b : ℕ) → (a ≡ 0 → ⊥) → a ≡ orElse a b
-or-some zero b h = absurd (h refl)
-or-some (suc a) b h = refl
-
-pub or-zero : (a b : ℕ) → orElse a b ≡ 0 → (a ≡ 0) × (b ≡ 0)
-or-zero a b e = (next-first a b e, next-rest a b e)
-
-pub or-same : (a b b′ : ℕ) → (a ≡ 0 → b ≡ b′) → orElse a b ≡ orElse a b′
-or-same zero b b′ h = h refl
-or-same (suc a) b b′ h = refl
 
 -- ---- what an accepted store is, with its chain c at hand
 pub record Sound (s c : List ℕ) : Type 0 where

@@ -11,10 +11,11 @@ use Rattle.store.specs.declared.Trail.{Trail}
 use Rattle.store.specs.declared.View.{View}
 use Rattle.store.specs.Chain.{sumOver}
 use Rattle.store.specs.Layout.{rec, totalAt, spanOf}
-use Rattle.store.specs.Store.{need, chain, total, sizeOk, headOk, chainOk, recordsOk, totalOk, refusal}
+use Rattle.line.specs.Refusal.{need}
+use Rattle.store.specs.Store.{chain, total, sizeOk, headOk, chainOk, recordsOk, totalOk, refusal}
 use Rattle.store.specs.Walk.{Walked, Viewed}
 use Rattle.store.proofs.Records.{total-at}
-use Rattle.store.proofs.Sounds.{need-zero}
+use Rattle.line.proofs.RefusalLaws.{need-zero}
 
 open-any : (a : Bool) (x y : ℕ) → need a 12 (need false 13 x) ≡ need a 12 (need false 13 y)
 open-any true x y = refl

@@ -7,7 +7,8 @@ use lib.IntN.{ℤ, pos}
 use lib.ListN.{length}
 use lib.Seq.{sets}
 use Rattle.store.specs.Layout.{Event, point, lost}
-use Rattle.store.specs.Store.{need, orElse, events, refusal}
+use Rattle.line.specs.Refusal.{need, orNext}
+use Rattle.store.specs.Store.{events, refusal}
 
 -- three numbers an event: 1 and a point's re and im, or 2, a lost count and 0
 abbrev pub numbers : List Event → List ℤ
@@ -18,7 +19,7 @@ numbers (lost n ∷ es) = pos 2 ∷ pos n ∷ pos 0 ∷ numbers es
 -- an offset past the end is 7 at once; "too few" is judged only of a store that 11 to 15 let pass, since another has no events
 unfoldable pub readNumber : List ℕ → ℕ → ℕ → ℕ
 readNumber s room offset =
-    need (leb offset room) 7 (orElse (refusal s) (need (leb (offset + 3 * length (events s)) room) 7 0))
+    need (leb offset room) 7 (orNext (refusal s) (need (leb (offset + 3 * length (events s)) room) 7 0))
 
 -- how many events were read
 unfoldable pub readCount : List ℕ → ℕ → ℕ → ℕ

@@ -4,7 +4,7 @@ use mathlib.Core.List.{List, [], _∷_}
 use Prim.Native.Nat.{ℕ, zero, suc, _%_}
 use lib.Dec.{eqb, ltb, leb}
 use lib.ListN.{length, getD, drop}
-pub use Rattle.line.specs.Refusal.{need, orNext as orElse}
+use Rattle.line.specs.Refusal.{need, orNext}
 use Rattle.line.specs.Mode.{isMode, isRole}
 use Rattle.octets.specs.Number.{u32, zeros}
 use Rattle.store.specs.Chain.{walk, lastOf, all, distinct, sumOver, gather}

@@ -1,6 +1,7 @@
 // The records of a track store, their chain, and numbers 11 to 15. Document 01, "Track store".
 use line::coordinate_ok;
 use line::mode_ok;
+use line::need;
 use line::role_ok;
 use octets::get_i16;
 use octets::get8;
@@ -16,7 +17,7 @@ ghost use lib.Seq.{sets};
 ghost use Rattle.line.specs.Point.{inRange};
 ghost use Rattle.octets.specs.Number.{i16};
 ghost use Rattle.store.specs.Layout.{rec, linkIn, next, points, pointsOk, recordOk, spanOf, eventsOf};
-ghost use Rattle.store.specs.Store.{need, orElse, events, refusal, sizeOk, hasMark, headOk};
+ghost use Rattle.store.specs.Store.{events, refusal, sizeOk, hasMark, headOk};
 ghost use Rattle.store.specs.Reading.{numbers, readNumber, readCount, readResult};
 ghost use Rattle.store.specs.Walk.{Sized, Passed, Walked, Viewed};
 
@@ -195,22 +196,6 @@ pub struct View {
     pub last: usize,
     pub greatest: usize,
     pub total: usize,
-}
-
-// The number of a need that is not met, else the rest.
-pub fn need(met: bool, number: u8, rest: u8) -> u8
-    ensures { λ r. ⌜ r ≡ Rattle.store.specs.Store.need met number rest ⌝ }
-{
-    if met { rest } else { number }
-}
-
-pub fn or_else(a: u8, b: u8) -> u8
-    ensures { λ r. ⌜ r ≡ orElse a b ⌝ }
-{
-    if a == 0 {
-        return b;
-    }
-    a
 }
 
 pub fn size_ok(s: &[u8]) -> bool

@@ -8,7 +8,8 @@ use mathlib.Core.List.{List, [], _∷_}
 use lib.Dec.{eqb, leb, ltb}
 use lib.ListN.{length}
 use lib.Seq.{sets}
-use Rattle.store.specs.Store.{need, chain, total, refusal}
+use Rattle.line.specs.Refusal.{need}
+use Rattle.store.specs.Store.{chain, total, refusal}
 use Rattle.line.specs.declared.Point.{Point}
 use Rattle.line.specs.Point.{inRange}
 use Rattle.store.specs.declared.View.{View}
@@ -16,11 +17,13 @@ use Rattle.store.specs.Chain.{greatest}
 use Rattle.octets.specs.Number.{le16, le32}
 use Rattle.store.specs.Layout.{count, rec, write, linkIn, totalAt, held, isPoints, lostRecord}
 use Rattle.track.specs.Append.{mostIntervals, newIndex, isFull, made, makeNumber, makeResult, lostAppended, lostNumber, lostResult, hasRoom, pointAppended, pointNumber, pointResult}
-use Rattle.store.specs.Store.{orElse, lastIn}
+use Rattle.line.specs.Refusal.{orNext}
+use Rattle.store.specs.Store.{lastIn}
 use Rattle.store.specs.Walk.{Viewed}
 use Rattle.track.specs.Seen.{spaces, lostSeen, pointSeen}
 use Rattle.octets.proofs.Tests.{by-test, and-split}
-use Rattle.store.proofs.Sounds.{Sound, accepted-sound, sound-last, sound-greatest, need-zero, or-zero, or-same}
+use Rattle.line.proofs.RefusalLaws.{need-zero, or-zero, or-same}
+use Rattle.store.proofs.Sounds.{Sound, accepted-sound, sound-last, sound-greatest}
 
 -- ---- making
 pub make-done : (s : List ℕ) (mode role : ℕ) → makeNumber s mode role ≡ 0 → made (length s) mode role ≡ makeResult s mode role
@@ -38,7 +41,7 @@ unfolding lostSeen lostNumber
 lost-seen s v full n x w f e =
     let mine : ℕ = need (leb (v .total + n) mostIntervals) 16 (need (not full) 17 0) in
     let rest : ℕ = need (leb (total s + n) mostIntervals) 16 (need (not (isFull s)) 17 0) in
-    e ∙ ap (need (leb 1 n) 9) (or-same (v .number) mine rest (λ z. cc (w .total-is z, w .most z, f)) ∙ ap (λ (x : ℕ). orElse x rest) (w .number))
+    e ∙ ap (need (leb 1 n) 9) (or-same (v .number) mine rest (λ z. cc (w .total-is z, w .most z, f)) ∙ ap (λ (x : ℕ). orNext x rest) (w .number))
 
 -- what holds of a store that a new record is not refused for
 not-full : (s : List ℕ) → refusal s ≡ 0 → not (isFull s) ≡ true → newIndex (chain s) < count s
@@ -58,7 +61,7 @@ unfolding lostNumber
 lost-free s n e =
     let last : ℕ = need (not (isFull s)) 17 0 in
     let rest : ℕ = need (leb (total s + n) mostIntervals) 16 last in
-    let a = need-zero (leb 1 n) 9 (orElse (refusal s) rest) (omega arith) e in
+    let a = need-zero (leb 1 n) 9 (orNext (refusal s) rest) (omega arith) e in
     let b = or-zero (refusal s) rest (a .1) in
     let c = need-zero (leb (total s + n) mostIntervals) 16 last (omega arith) (b .1) in
     let d = need-zero (not (isFull s)) 17 0 (omega arith) (c .1) in
@@ -126,7 +129,7 @@ unfolding pointSeen pointNumber
 point-seen s number t room p w f g =
     let mine : ℕ = need (leb (t + 1) mostIntervals) 16 (need (ltb 0 room) 17 0) in
     let rest : ℕ = need (leb (total s + 1) mostIntervals) 16 (need (hasRoom s (lastIn s) || not (isFull s)) 17 0) in
-    ap (need (inRange p) 8) (or-same number mine rest (λ z. cc (f z, g z, spaces-some s (sym w ∙ z))) ∙ ap (λ (x : ℕ). orElse x rest) w)
+    ap (need (inRange p) 8) (or-same number mine rest (λ z. cc (f z, g z, spaces-some s (sym w ∙ z))) ∙ ap (λ (x : ℕ). orNext x rest) w)
 
 pub record PointFree (s : List ℕ) (p : Point) : Type 0 where
   pub accepted : refusal s ≡ 0
@@ -139,7 +142,7 @@ unfolding pointNumber
 point-free s p e =
     let last : ℕ = need (hasRoom s (lastIn s) || not (isFull s)) 17 0 in
     let rest : ℕ = need (leb (total s + 1) mostIntervals) 16 last in
-    let a = need-zero (inRange p) 8 (orElse (refusal s) rest) (omega arith) e in
+    let a = need-zero (inRange p) 8 (orNext (refusal s) rest) (omega arith) e in
     let b = or-zero (refusal s) rest (a .1) in
     let c = need-zero (leb (total s + 1) mostIntervals) 16 last (omega arith) (b .1) in
     let d = need-zero (hasRoom s (lastIn s) || not (isFull s)) 17 0 (omega arith) (c .1) in

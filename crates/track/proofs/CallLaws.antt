@@ -12,7 +12,7 @@ use Rattle.store.specs.Layout.{Event, point, lost}
 use Rattle.store.specs.Store.{events, total, refusal}
 use Rattle.track.specs.Append.{pointResult, pointNumber, lostResult, lostNumber}
 use Rattle.line.specs.declared.Point.{Point}
-use Rattle.store.proofs.Sounds.{or-zero}
+use Rattle.line.proofs.RefusalLaws.{or-zero}
 use Rattle.track.specs.Points.{eachNumber, eachResult}
 use Rattle.track.specs.Calls.{callNumber, callResult, intervals, after, accepted}
 use Rattle.track.proofs.Appends.{Appended, lost-law}

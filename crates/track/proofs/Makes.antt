@@ -11,9 +11,11 @@ use Rattle.octets.specs.Number.{u16, u32}
 use Rattle.octets.proofs.Sets.{take-sets-in}
 use Rattle.store.specs.Chain.{gather}
 use Rattle.store.specs.Layout.{count, rec, totalAt, firstAt, next, eventsOf}
-use Rattle.store.specs.Store.{need, events, total, mark, sizeOk, hasMark, headOk, refusal}
+use Rattle.line.specs.Refusal.{need}
+use Rattle.store.specs.Store.{events, total, mark, sizeOk, hasMark, headOk, refusal}
 use Rattle.track.specs.Append.{made, makeNumber, makeResult}
-use Rattle.store.proofs.Sounds.{Sound, sound-accepted, sound-chain, size-sized, need-zero}
+use Rattle.line.proofs.RefusalLaws.{need-zero}
+use Rattle.store.proofs.Sounds.{Sound, sound-accepted, sound-chain, size-sized}
 use Rattle.track.proofs.Answers.{make-done}
 
 abbrev opening : ℕ → ℕ → List ℕ

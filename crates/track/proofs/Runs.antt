@@ -17,9 +17,11 @@ use Rattle.octets.proofs.Tests.{by-test}
 use Rattle.octets.specs.Number.{le32}
 use Rattle.store.specs.declared.View.{View}
 use Rattle.track.specs.declared.End.{End}
-use Rattle.store.specs.Store.{need, orElse, total, refusal}
+use Rattle.line.specs.Refusal.{need, orNext}
+use Rattle.store.specs.Store.{total, refusal}
 use Rattle.store.specs.Walk.{Viewed}
-use Rattle.store.proofs.Sounds.{need-zero, or-some, or-zero, or-same, accepted-sound, sound-last}
+use Rattle.line.proofs.RefusalLaws.{need-zero, or-some, or-zero, or-same}
+use Rattle.store.proofs.Sounds.{accepted-sound, sound-last}
 use Rattle.track.specs.Append.{mostIntervals, pointAppended, pointNumber, pointResult}
 use Rattle.track.specs.Points.{eachNumber, eachResult, pointsNumber, pointsResult}
 use Rattle.track.specs.Seen.{spaces, pointSeen, seenNumber, fit, firstIn, Ends, Reach, placed, nextEnd}
@@ -40,19 +42,19 @@ pairs-drop (suc n) (z ∷ y ∷ zs) = ap (λ (m : ℕ). pairs (drop m (z ∷ y �
 pub seen-stop : (number t room n : ℕ) (p : Point) (ps : List Point) → n ≡ pointSeen number t room p → (n ≡ 0 → ⊥) → n ≡ seenNumber number t room (p ∷ ps)
 unfolding seenNumber
 seen-stop number t room n p ps e h =
-    or-some n (seenNumber number (t + 1) (room - 1) ps) h ∙ ap (λ (x : ℕ). orElse x (seenNumber number (t + 1) (room - 1) ps)) e
+    or-some n (seenNumber number (t + 1) (room - 1) ps) h ∙ ap (λ (x : ℕ). orNext x (seenNumber number (t + 1) (room - 1) ps)) e
 
 pub seen-step : (number t room n : ℕ) (p : Point) (ps : List Point) → n ≡ pointSeen number t room p → n ≡ 0
     → seenNumber number t room (p ∷ ps) ≡ seenNumber number (t + 1) (room - 1) ps
 unfolding seenNumber
-seen-step number t room n p ps e z = ap (λ (x : ℕ). orElse x (seenNumber number (t + 1) (room - 1) ps)) (sym e ∙ z)
+seen-step number t room n p ps e z = ap (λ (x : ℕ). orNext x (seenNumber number (t + 1) (room - 1) ps)) (sym e ∙ z)
 
 pub seen-free : (number t room n : ℕ) (p : Point) → n ≡ pointSeen number t room p → n ≡ 0 → (t + 1 ≤ 4294967295) × (0 < room)
 unfolding pointSeen
 seen-free number t room n p e z =
     let last : ℕ = need (ltb 0 room) 17 0 in
     let rest : ℕ = need (leb (t + 1) mostIntervals) 16 last in
-    let a = need-zero (inRange p) 8 (orElse number rest) (omega arith) (sym e ∙ z) in
+    let a = need-zero (inRange p) 8 (orNext number rest) (omega arith) (sym e ∙ z) in
     let b = or-zero number rest (a .1) in
     let c = need-zero (leb (t + 1) mostIntervals) 16 last (omega arith) (b .1) in
     let d = need-zero (ltb 0 room) 17 0 (omega arith) (c .1) in
@@ -95,7 +97,7 @@ seen-in : (t room : ℕ) (p : Point) → t + 1 ≤ 4294967295 → 0 < room → p
 unfolding pointSeen
 seen-in t room p h k = rw (le-leb (t + 1) 4294967295 h, lt-ltb 0 room k)
 
-need-both : (a b : Bool) (x : ℕ) → orElse (need a 8 0) (need b 8 x) ≡ need (a && b) 8 x
+need-both : (a b : Bool) (x : ℕ) → orNext (need a 8 0) (need b 8 x) ≡ need (a && b) 8 x
 need-both true b x = refl
 need-both false b x = refl
 
@@ -105,7 +107,7 @@ unfolding seenNumber
 seen-run zero t room ps a b c = rw (add-zero t, sub-zero room)
 seen-run (suc m) t room [] a b c = absurd (omega arith)
 seen-run (suc m) t room (p ∷ ps) a b c =
-    ap₂ orElse (seen-in t room p (omega arith) (omega arith)) (seen-run m (t + 1) (room - 1) ps (omega arith) (omega arith) (omega arith))
+    ap₂ orNext (seen-in t room p (omega arith) (omega arith)) (seen-run m (t + 1) (room - 1) ps (omega arith) (omega arith) (omega arith))
     ∙ need-both (inRange p) (firstIn m ps) (seenNumber 0 (t + 1 + m) (room - 1 - m) (drop m ps))
     ∙ ap₂ (λ (x y : ℕ). need (inRange p && firstIn m ps) 8 (seenNumber 0 x y (drop m ps))) (let e : t + 1 + m ≡ t + suc m = omega arith in e) (let e : room - 1 - m ≡ room - suc m = omega arith in e)
 
@@ -148,7 +150,7 @@ each-seen s number t room (p ∷ ps) w f g =
     let l = spaces-less s p e in
     subst (λ (u : List ℕ). seenNumber number (t + 1) (room - 1) ps ≡ eachNumber u ps) (point-done s p e)
     (each-seen (pointAppended s p) number (t + 1) (room - 1) ps (n ∙ sym (a .accepted)) (λ q. omega (arith, a .total-is, f n)) (λ q. omega (arith, l, g n))))
-    ∙ ap (λ (x : ℕ). orElse x (eachNumber (pointResult s p) ps)) (point-seen s number t room p w f g)
+    ∙ ap (λ (x : ℕ). orNext x (eachNumber (pointResult s p) ps)) (point-seen s number t room p w f g)
 
 -- ---- writing
 -- after the numbers before place k the bytes are s, and with the total they are `full`: what is left to append to it is all
@@ -251,7 +253,7 @@ unfolding pointsResult
 points-kept s zs h = rw (ne-eqb (pointsNumber s zs) 0 h)
 
 -- ---- one point
-or-none : (a : ℕ) → orElse a 0 ≡ a
+or-none : (a : ℕ) → orNext a 0 ≡ a
 or-none zero = refl
 or-none (suc a) = refl
 

@@ -12,7 +12,8 @@ use Rattle.line.specs.Point.{inRange}
 use Rattle.octets.specs.Number.{le16, le32}
 use Rattle.store.specs.Chain.{lastOf, greatest}
 use Rattle.store.specs.Layout.{count, rec, write, linkIn, totalAt, isPoints, held, lostRecord, pointBytes, pointRecord}
-use Rattle.store.specs.Store.{need, orElse, chain, lastIn, total, mark, sizeOk, refusal}
+use Rattle.line.specs.Refusal.{need, orNext}
+use Rattle.store.specs.Store.{chain, lastIn, total, mark, sizeOk, refusal}
 
 -- making a store zeroes it and writes record 0
 unfoldable pub made : ℕ → ℕ → ℕ → List ℕ
@@ -46,7 +47,7 @@ lostAppended s n = linked s (chain s) (lostRecord n) n
 
 unfoldable pub lostNumber : List ℕ → ℕ → ℕ
 lostNumber s n =
-    need (leb 1 n) 9 (orElse (refusal s) (need (leb (total s + n) mostIntervals) 16 (need (not (isFull s)) 17 0)))
+    need (leb 1 n) 9 (orNext (refusal s) (need (leb (total s + n) mostIntervals) 16 (need (not (isFull s)) 17 0)))
 
 unfoldable pub lostResult : List ℕ → ℕ → List ℕ
 lostResult s n = cond (eqb (lostNumber s n) 0) (lostAppended s n) s
@@ -68,7 +69,7 @@ pointAppended s p =
 unfoldable pub pointNumber : List ℕ → Point → ℕ
 pointNumber s p =
     need (inRange p) 8
-    (orElse (refusal s) (need (leb (total s + 1) mostIntervals) 16 (need (hasRoom s (lastIn s) || not (isFull s)) 17 0)))
+    (orNext (refusal s) (need (leb (total s + 1) mostIntervals) 16 (need (hasRoom s (lastIn s) || not (isFull s)) 17 0)))
 
 unfoldable pub pointResult : List ℕ → Point → List ℕ
 pointResult s p = cond (eqb (pointNumber s p) 0) (pointAppended s p) s

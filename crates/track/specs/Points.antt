@@ -7,13 +7,13 @@ use lib.IntN.{ℤ}
 use lib.ListN.{length}
 use Rattle.line.specs.declared.Point.{Point}
 use Rattle.line.specs.Point.{pairs}
-use Rattle.store.specs.Store.{need, orElse}
+use Rattle.line.specs.Refusal.{need, orNext}
 use Rattle.track.specs.Append.{pointNumber, pointResult}
 
 -- the number of the first append that is refused, each to the store that the one before left
 abbrev pub eachNumber : List ℕ → List Point → ℕ
 eachNumber s [] = 0
-eachNumber s (p ∷ ps) = orElse (pointNumber s p) (eachNumber (pointResult s p) ps)
+eachNumber s (p ∷ ps) = orNext (pointNumber s p) (eachNumber (pointResult s p) ps)
 
 -- the store after all of them
 abbrev pub eachResult : List ℕ → List Point → List ℕ

@@ -9,7 +9,8 @@ use Rattle.line.specs.Point.{inRange}
 use Rattle.octets.specs.Number.{le16}
 use Rattle.store.specs.Chain.{greatest}
 use Rattle.store.specs.Layout.{count, rec, write, linkIn, held, pointBytes, pointRecord}
-use Rattle.store.specs.Store.{need, orElse, chain, lastIn, total, refusal}
+use Rattle.line.specs.Refusal.{need, orNext}
+use Rattle.store.specs.Store.{chain, lastIn, total, refusal}
 use Rattle.track.specs.declared.End.{End}
 use Rattle.track.specs.Append.{mostIntervals, newIndex, hasRoom}
 
@@ -20,16 +21,16 @@ spaces s = cond (hasRoom s (lastIn s)) (7 - held (rec s (lastIn s))) 0 + 7 * (co
 -- the number that refuses a point, or a lost count: from the store's number, its total t, and whether there is room
 unfoldable pub pointSeen : ℕ → ℕ → ℕ → Point → ℕ
 pointSeen number t room p =
-    need (inRange p) 8 (orElse number (need (leb (t + 1) mostIntervals) 16 (need (ltb 0 room) 17 0)))
+    need (inRange p) 8 (orNext number (need (leb (t + 1) mostIntervals) 16 (need (ltb 0 room) 17 0)))
 
 unfoldable pub lostSeen : ℕ → ℕ → Bool → ℕ → ℕ
 lostSeen number t full n =
-    need (leb 1 n) 9 (orElse number (need (leb (t + n) mostIntervals) 16 (need (not full) 17 0)))
+    need (leb 1 n) 9 (orNext number (need (leb (t + n) mostIntervals) 16 (need (not full) 17 0)))
 
 -- the number of the first point that is refused, each taking one interval and one place
 unfoldable pub seenNumber : ℕ → ℕ → ℕ → List Point → ℕ
 seenNumber number t room [] = 0
-seenNumber number t room (p ∷ ps) = orElse (pointSeen number t room p) (seenNumber number (t + 1) (room - 1) ps)
+seenNumber number t room (p ∷ ps) = orNext (pointSeen number t room p) (seenNumber number (t + 1) (room - 1) ps)
 
 -- how many of n points only number 8 can refuse; the first n points are in range
 unfoldable pub fit : ℕ → ℕ → ℕ → ℕ → ℕ

@@ -2,6 +2,8 @@
 use line::all_in_range;
 use line::in_range;
 use line::mode_ok;
+use line::need;
+use line::or_next;
 use line::role_ok;
 use octets::clear;
 use octets::get8;
@@ -16,8 +18,6 @@ use store::TOTAL_AT;
 use store::View;
 use store::inspect;
 use store::link_in;
-use store::need;
-use store::or_else;
 pub use store::read;
 use store::size_ok;
 ghost use mathlib.Core.Path.{_≡_};
@@ -169,7 +169,7 @@ fn point_number(number: u8, total: usize, room: usize, re: i16, im: i16) -> u8
     need(
         in_range(re, im),
         8,
-        or_else(
+        or_next(
             number,
             need(total + 1 <= MOST_INTERVALS, 16, need(0 < room, 17, 0)),
         ),
@@ -184,7 +184,7 @@ fn lost_number(number: u8, total: usize, full: bool, n: usize) -> u8
     need(
         1 <= n,
         9,
-        or_else(
+        or_next(
             number,
             need(total + n <= MOST_INTERVALS, 16, need(!full, 17, 0)),
         ),

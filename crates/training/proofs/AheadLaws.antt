@@ -9,7 +9,7 @@ use native.Mathlib.Decide.{decLt, decLe}
 use borrow.Author.Tests.{lt-ltb, le-ltb}
 use lib.Dec.{T, ltb, eqb}
 use lib.ListN.{length, getD, replicate}
-use Rattle.line.specs.Mode.{byMode, width, regLen}
+use Rattle.line.specs.Mode.{byMode, width, capacity}
 use Rattle.line.proofs.ByMode.{mode-short, mode-long}
 use Rattle.scrambler.specs.declared.Register.{Register}
 use Rattle.scrambler.specs.Bits.{bits}
@@ -88,8 +88,8 @@ module _ (t : List ℕ) (rule : MiddleTable t) (m role n : ℕ) (hm : m ≤ 2) w
   unfolding nearTap
   tap = mode-short 6 (getD (18 ∷ 5 ∷ []) role 5) m hm
 
-  size : regLen m ≡ regLen 2
-  unfolding regLen
+  size : capacity m ≡ capacity 2
+  unfolding capacity
   size = mode-short 7 23 m hm
 
   -- a middle interval of either mode, from the register of mode 2

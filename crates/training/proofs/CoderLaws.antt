@@ -6,7 +6,7 @@ use native.Mathlib.Nat.{le-of-eq, le-antisymm}
 use native.Mathlib.Omega.{arith}
 use lib.Dec.{T}
 use lib.ListN.{length, replicate}
-use Rattle.line.specs.Mode.{isMode, width, regLen, isState, face}
+use Rattle.line.specs.Mode.{isMode, width, capacity, isState, face}
 use Rattle.coding.specs.Code.{coded}
 use Rattle.line.proofs.ByMode.{by-all}
 use Rattle.coding.proofs.ModeLaws.{OfGroup, of-state}
@@ -38,7 +38,7 @@ unfolding width
 ones-bits m = by-all (λ (w : ℕ). bits w 15 ≡ replicate w 1) 2 3 2 4 refl refl refl refl m
 
 -- modes and roles with one scrambler
-module _ (m n role r : ℕ) (a : nearTap m role ≡ nearTap n r) (e : regLen m ≡ regLen n) where
+module _ (m n role r : ℕ) (a : nearTap m role ≡ nearTap n r) (e : capacity m ≡ capacity n) where
   mix-same : (h : Register) (x : ℕ) → mix m role h x ≡ mix n r h x
   unfolding mix
   mix-same h x = rw (a, e)
@@ -61,7 +61,7 @@ module _ (m n role r : ℕ) (a : nearTap m role ≡ nearTap n r) (e : regLen m �
 -- a coder that can send: its reference is a state of the mode, its register is full and has no bits beyond
 pub record Ready (m : ℕ) (c : Coder) : Type 0 where
   pub state : T (isState m (c .reference))
-  pub full : c .line .held .0 ≡ regLen m
+  pub full : c .line .held .0 ≡ capacity m
   pub fit : Ok m (c .line)
 
 -- line bits that were scrambled keep the register so

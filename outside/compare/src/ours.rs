@@ -5,7 +5,7 @@
 pub const LISTING_BYTES: usize = 372_591;
 
 mod c {
-    #[link(name = "capi", kind = "static")]
+    #[link(name = "kerambiu", kind = "static")]
     extern "C" {
         pub fn kerambiu_fresh(state: *mut u8, state_len: usize, mode: u8, role: u8) -> u8;
         pub fn kerambiu_receive_point(

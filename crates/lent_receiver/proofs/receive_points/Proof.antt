@@ -5,7 +5,7 @@ use Rattle.lent_receiver.proofs.receive_points.Statement.{statement}
 use Rattle.lent_receiver.proofs.receive_points.Tie as tie
 use Rattle.lent_receiver.proofs.receive_points.Reads as reads
 use Rattle.lent_receiver.proofs.receive_points.Lts as lts
-use Rattle.blocks.proofs.receive_points.Reads as receive-points-reads
+use Rattle.bulk.proofs.receive_points.Reads as receive-points-reads
 use Rattle.lent_receiver.proofs.load_receiver.Reads as load-receiver-reads
 use Rattle.lent_receiver.proofs.put_receiver.Reads as put-receiver-reads
 

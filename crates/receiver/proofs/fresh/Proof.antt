@@ -4,20 +4,20 @@ use Rattle.receiver.proofs.fresh.Statement.{statement}
 use Rattle.receiver.proofs.fresh.Tie as tie
 use Rattle.receiver.proofs.fresh.Reads as reads
 use Rattle.receiver.proofs.fresh.Lts as lts
-use Rattle.receiver.proofs.fresh_fault.Reads as fresh-fault-reads
+use Rattle.line.proofs.mode_fault.Reads as mode-fault-reads
 use Rattle.scrambler.proofs.fresh_register.Reads as fresh-register-reads
 
-fresh-fault-requires : tie.Need-fresh-fault-requires
-fresh-fault-requires c κs = search needs
+mode-fault-requires : tie.Need-mode-fault-requires
+mode-fault-requires c κs = search needs
 
 returns : tie.Need-returns
-returns c = started-fault _ _ _ (c .before .fresh-fault .ensures) (c .if1 .taken)
+returns c = started-fault _ _ _ (c .before .mode-fault .ensures) (c .if1 .taken)
 
 fresh-register-requires : tie.Need-fresh-register-requires
 fresh-register-requires c κs = search needs
 
 returns-2 : tie.Need-returns-2
-returns-2 c = started-ready _ _ _ (c .before .before .fresh-fault .ensures) _ (c .before .if1 .left) (c .fresh-register .ensures)
+returns-2 c = started-ready _ _ _ (c .before .before .mode-fault .ensures) _ (c .before .if1 .left) (c .fresh-register .ensures)
 
 pub fresh-spec : {M : Type 1} → statement M
-fresh-spec = tie.close (tie.spec fresh-fault-requires returns fresh-register-requires returns-2)
+fresh-spec = tie.close (tie.spec mode-fault-requires returns fresh-register-requires returns-2)

@@ -5,10 +5,10 @@ use Rattle.receiver.proofs.state_fault.Tie as tie
 use Rattle.receiver.proofs.state_fault.Reads as reads
 use Rattle.receiver.proofs.state_fault.Lts as lts
 use Rattle.receiver.proofs.fields_ok.Reads as fields-ok-reads
-use Rattle.receiver.proofs.fresh_fault.Reads as fresh-fault-reads
+use Rattle.line.proofs.mode_fault.Reads as mode-fault-reads
 
-fresh-fault-requires : tie.Need-fresh-fault-requires
-fresh-fault-requires c κs = search needs
+mode-fault-requires : tie.Need-mode-fault-requires
+mode-fault-requires c κs = search needs
 
 returns : tie.Need-returns
 returns c = search fault-early
@@ -24,4 +24,4 @@ returns-3 c = search fault-fields
 
 pub state-fault-spec : {M : Type 1} → statement M
 state-fault-spec =
-    tie.close (tie.spec fresh-fault-requires returns fields-ok-requires returns-2 returns-3)
+    tie.close (tie.spec mode-fault-requires returns fields-ok-requires returns-2 returns-3)

@@ -6,7 +6,7 @@ use Rattle.scrambler.proofs.descramble_group.Statement.{statement}
 use Rattle.scrambler.proofs.descramble_group.Tie as tie
 use Rattle.scrambler.proofs.descramble_group.Reads as reads
 use Rattle.scrambler.proofs.descramble_group.Lts as lts
-use Rattle.line.proofs.length_of.Reads as length-of-reads
+use Rattle.line.proofs.capacity_of.Reads as capacity-of-reads
 use Rattle.line.proofs.width_of.Reads as width-of-reads
 use Rattle.scrambler.proofs.mixed.Reads as mixed-reads
 use Rattle.scrambler.proofs.push_group.Reads as push-group-reads
@@ -18,8 +18,8 @@ width-of-requires : tie.Need-width-of-requires
 width-of-requires c κs = search needs
 
 -- src/lib.rt:180:31
-length-of-requires : tie.Need-length-of-requires
-length-of-requires c κs = search needs
+capacity-of-requires : tie.Need-capacity-of-requires
+capacity-of-requires c κs = search needs
 
 -- src/lib.rt:180:9
 unsettled-bits-requires : tie.Need-unsettled-bits-requires
@@ -48,7 +48,7 @@ descramble-group-spec =
     tie.close
     (tie.spec
     width-of-requires
-    length-of-requires
+    capacity-of-requires
     unsettled-bits-requires
     mixed-requires
     without-first-requires

@@ -30,13 +30,13 @@ keep-bits-requires c κs = search needs
 mixed-requires : tie.Need-mixed-requires
 mixed-requires c κs = search needs
 
-length-of-requires : tie.Need-length-of-requires
-length-of-requires c κs = search needs
+capacity-of-requires : tie.Need-capacity-of-requires
+capacity-of-requires c κs = search needs
 
 returns : tie.Need-returns
 returns c =
     let a = c .before .before .before .before .before .before .args in
-    full-law (a .mode) (a .role) (a .n) (a .line) _ _ _ _ _ _ (c .before .before .before .before .width-of .ensures) (c .length-of .ensures) (c .before .before .before .before .before .low-bits .ensures .0) (c .before .before .before .group-size .ensures .0) (c .before .before .keep-bits .ensures) (c .before .mixed .ensures .0)
+    full-law (a .mode) (a .role) (a .n) (a .line) _ _ _ _ _ _ (c .before .before .before .before .width-of .ensures) (c .capacity-of .ensures) (c .before .before .before .before .before .low-bits .ensures .0) (c .before .before .before .group-size .ensures .0) (c .before .before .keep-bits .ensures) (c .before .mixed .ensures .0)
 
 pub descramble-next-spec : {M : Type 1} → statement M
 descramble-next-spec =
@@ -50,5 +50,5 @@ descramble-next-spec =
     add-keep-bits
     keep-bits-requires
     mixed-requires
-    length-of-requires
+    capacity-of-requires
     returns)

@@ -7,7 +7,7 @@ use Rattle.scrambler.proofs.push_group.Statement.{statement}
 use Rattle.scrambler.proofs.push_group.Tie as tie
 use Rattle.scrambler.proofs.push_group.Reads as reads
 use Rattle.scrambler.proofs.push_group.Lts as lts
-use Rattle.line.proofs.length_of.Reads as length-of-reads
+use Rattle.line.proofs.capacity_of.Reads as capacity-of-reads
 use Rattle.line.proofs.width_of.Reads as width-of-reads
 use Rattle.scrambler.proofs.group_size.Reads as group-size-reads
 use Rattle.scrambler.proofs.keep_bits.Reads as keep-bits-reads
@@ -22,8 +22,8 @@ width-of-requires : tie.Need-width-of-requires
 width-of-requires c κs = search needs
 
 -- src/lib.rt:111:9
-length-of-requires : tie.Need-length-of-requires
-length-of-requires c κs = search needs
+capacity-of-requires : tie.Need-capacity-of-requires
+capacity-of-requires c κs = search needs
 
 -- src/lib.rt:112:15
 low-bits-requires : tie.Need-low-bits-requires
@@ -59,11 +59,11 @@ add-t18 c = search needs
 
 -- src/lib.rt:105:1
 returns : tie.Need-returns
-returns c = push-law (c .before .before .before .before .before .before .before .args .mode) (c .before .before .before .before .before .before .before .args .h) (c .before .before .before .before .before .before .before .args .g) _ _ _ _ _ _ (c .before .before .before .before .before .width-of .ensures) (c .before .before .before .before .length-of .ensures) (c .before .before .before .low-bits .ensures .0) (c .before .before .group-size .ensures .0) (c .before .keep-bits .ensures) (omega (arith, width-range (c .before .before .before .before .before .before .before .args .mode), length-range (c .before .before .before .before .before .before .before .args .mode)))
+returns c = push-law (c .before .before .before .before .before .before .before .args .mode) (c .before .before .before .before .before .before .before .args .h) (c .before .before .before .before .before .before .before .args .g) _ _ _ _ _ _ (c .before .before .before .before .before .width-of .ensures) (c .before .before .before .before .capacity-of .ensures) (c .before .before .before .low-bits .ensures .0) (c .before .before .group-size .ensures .0) (c .before .keep-bits .ensures) (omega (arith, width-range (c .before .before .before .before .before .before .before .args .mode), length-range (c .before .before .before .before .before .before .before .args .mode)))
 
 -- src/lib.rt:105:1
 returns-2 : tie.Need-returns-2
-returns-2 c = push-law (c .before .before .before .before .before .before .before .args .mode) (c .before .before .before .before .before .before .before .args .h) (c .before .before .before .before .before .before .before .args .g) _ _ _ _ _ _ (c .before .before .before .before .before .width-of .ensures) (c .before .before .before .before .length-of .ensures) (c .before .before .before .low-bits .ensures .0) (c .before .before .group-size .ensures .0) (c .before .keep-bits .ensures) (omega (arith, width-range (c .before .before .before .before .before .before .before .args .mode), length-range (c .before .before .before .before .before .before .before .args .mode)))
+returns-2 c = push-law (c .before .before .before .before .before .before .before .args .mode) (c .before .before .before .before .before .before .before .args .h) (c .before .before .before .before .before .before .before .args .g) _ _ _ _ _ _ (c .before .before .before .before .before .width-of .ensures) (c .before .before .before .before .capacity-of .ensures) (c .before .before .before .low-bits .ensures .0) (c .before .before .group-size .ensures .0) (c .before .keep-bits .ensures) (omega (arith, width-range (c .before .before .before .before .before .before .before .args .mode), length-range (c .before .before .before .before .before .before .before .args .mode)))
 
 pub push-group-spec : {M : Type 1} → statement M
 push-group-spec =
@@ -71,7 +71,7 @@ push-group-spec =
     (tie.spec
     cast-n
     width-of-requires
-    length-of-requires
+    capacity-of-requires
     low-bits-requires
     cast-low
     group-size-requires

@@ -6,10 +6,10 @@ use Rattle.scrambler.proofs.register_ok.Statement.{statement}
 use Rattle.scrambler.proofs.register_ok.Tie as tie
 use Rattle.scrambler.proofs.register_ok.Reads as reads
 use Rattle.scrambler.proofs.register_ok.Lts as lts
-use Rattle.line.proofs.length_of.Reads as length-of-reads
+use Rattle.line.proofs.capacity_of.Reads as capacity-of-reads
 
-length-of-requires : tie.Need-length-of-requires
-length-of-requires c κs = search needs
+capacity-of-requires : tie.Need-capacity-of-requires
+capacity-of-requires c κs = search needs
 
 cast-result : tie.Need-cast-result
 cast-result c = search needs
@@ -24,4 +24,4 @@ returns-2 : tie.Need-returns-2
 returns-2 c = search not-ok-law
 
 pub register-ok-spec : {M : Type 1} → statement M
-register-ok-spec = tie.close (tie.spec length-of-requires cast-result shr-result returns returns-2)
+register-ok-spec = tie.close (tie.spec capacity-of-requires cast-result shr-result returns returns-2)

@@ -4,7 +4,7 @@ use Rattle.sender.proofs.fields_ok.Statement.{statement}
 use Rattle.sender.proofs.fields_ok.Tie as tie
 use Rattle.sender.proofs.fields_ok.Reads as reads
 use Rattle.sender.proofs.fields_ok.Lts as lts
-use Rattle.line.proofs.length_of.Reads as length-of-reads
+use Rattle.line.proofs.capacity_of.Reads as capacity-of-reads
 use Rattle.line.proofs.state_ok.Reads as state-ok-reads
 use Rattle.scrambler.proofs.register_ok.Reads as register-ok-reads
 
@@ -14,8 +14,8 @@ state-ok-requires c κs = search needs
 returns : tie.Need-returns
 returns c = search not-a-state
 
-length-of-requires : tie.Need-length-of-requires
-length-of-requires c κs = search needs
+capacity-of-requires : tie.Need-capacity-of-requires
+capacity-of-requires c κs = search needs
 
 returns-2 : tie.Need-returns-2
 returns-2 c = search not-full
@@ -32,7 +32,7 @@ fields-ok-spec =
     (tie.spec
     state-ok-requires
     returns
-    length-of-requires
+    capacity-of-requires
     returns-2
     register-ok-requires
     returns-3)

@@ -1,6 +1,7 @@
 use Rattle.store.proofs.Views.{viewed-sized}
 use Rattle.store.proofs.Sounds.{size-sized}
-use Rattle.store.specs.Store.{headOk, need}
+use Rattle.line.specs.Refusal.{need}
+use Rattle.store.specs.Store.{headOk}
 use native.Mathlib.Omega.{arith}
 use denote.Ref.{now}
 use mathlib.Core.Path.{_≡_, refl, sym, ap, _∙_}
@@ -12,7 +13,7 @@ use Rattle.store.proofs.inspect_sized.Lts as lts
 use Rattle.octets.proofs.get32.Reads as get32-reads
 use Rattle.store.proofs.follow.Reads as follow-reads
 use Rattle.store.proofs.head_ok.Reads as head-ok-reads
-use Rattle.store.proofs.need.Reads as need-reads
+use Rattle.line.proofs.need.Reads as need-reads
 use Rattle.store.proofs.record_at.Reads as record-at-reads
 
 follow-requires : tie.Need-follow-requires

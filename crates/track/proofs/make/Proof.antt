@@ -9,7 +9,7 @@ use Rattle.track.proofs.make.Reads as reads
 use Rattle.track.proofs.make.Lts as lts
 use Rattle.line.proofs.mode_ok.Reads as mode-ok-reads
 use Rattle.line.proofs.role_ok.Reads as role-ok-reads
-use Rattle.store.proofs.need.Reads as need-reads
+use Rattle.line.proofs.need.Reads as need-reads
 use Rattle.track.proofs.put_head.Reads as put-head-reads
 use Rattle.store.proofs.size_ok.Reads as size-ok-reads
 

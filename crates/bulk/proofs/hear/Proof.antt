@@ -1,0 +1,35 @@
+use mir.Facts.{toZ-ofZ}
+use Rattle.bulk.proofs.BlockLaws.{has-place, hear-state, hear-origin}
+use borrow.Author.Needs.{needs}
+use Rattle.bulk.proofs.hear.Statement.{statement}
+use Rattle.bulk.proofs.hear.Tie as tie
+
+is-origin-requires : tie.Need-is-origin-requires
+is-origin-requires c κs = search needs
+
+lose-requires : tie.Need-lose-requires
+lose-requires c κs = has-place _ _ (c .before .before .pre .2)
+
+returns : tie.Need-returns
+returns c =
+    let a = c .before .before .before .args in
+    let f = c .before .before .before .fits in
+    hear-origin (a .s) (a .re) (a .im) (c .before .before .before .pre .2) _ (rw (toZ-ofZ (f .re), toZ-ofZ (f .im)) at (c .before .before .is-origin .ensures)) _ (c .before .if1 .taken) (c .lose .ensures)
+
+state-at-requires : tie.Need-state-at-requires
+state-at-requires c κs = search needs
+
+take-requires : tie.Need-take-requires
+take-requires c κs = (c .before .before .before .pre .1, has-place _ _ (c .before .before .before .pre .2))
+
+returns-2 : tie.Need-returns-2
+returns-2 c =
+    let a = c .before .before .before .before .args in
+    let f = c .before .before .before .before .fits in
+    hear-state (a .s) (a .re) (a .im) (c .before .before .before .before .pre .2) _ (rw (toZ-ofZ (f .re), toZ-ofZ (f .im)) at (c .before .before .before .is-origin .ensures)) _ _ _ (c .before .before .if1 .left) (c .before .before .before .before .pre .0)
+    (rw (toZ-ofZ (f .re), toZ-ofZ (f .im)) at (c .before .state-at .ensures)) (c .take .ensures)
+
+pub hear-spec : {M : Type 1} → statement M
+hear-spec =
+    tie.close
+    (tie.spec is-origin-requires lose-requires returns state-at-requires take-requires returns-2)

@@ -1,0 +1,48 @@
+use mathlib.Core.Path.{refl}
+use Rattle.bulk.proofs.BlockLaws.{is-settled}
+use borrow.Author.Needs.{needs}
+use Rattle.bulk.proofs.hear_on.Statement.{statement}
+use Rattle.bulk.proofs.hear_on.Tie as tie
+
+enum-told : tie.Need-enum-told
+enum-told c = search needs
+
+enum-known-reference : tie.Need-enum-known-reference
+enum-known-reference c = search needs
+
+capacity-of-requires : tie.Need-capacity-of-requires
+capacity-of-requires c κs = search needs
+
+hear-settled-requires : tie.Need-hear-settled-requires
+hear-settled-requires c κs =
+    let p = c .before .before .before .before .before .before .before .before .before .before .pre in
+    (p .0, p .1, is-settled (c .before .before .before .before .before .before .before .before .before .before .args .s) _ _ _ (search needs) (c .before .before .before .before .capacity-of .ensures) (c .before .before .if1 .taken) refl, p .2, p .3, p .4)
+
+same-length : tie.Need-same-length
+same-length c = search needs
+
+same-length-2 : tie.Need-same-length-2
+same-length-2 c = search needs
+
+returns : tie.Need-returns
+returns c = search needs
+
+returns-2 : tie.Need-returns-2
+returns-2 c = search needs
+
+returns-3 : tie.Need-returns-3
+returns-3 c = search needs
+
+pub hear-on-spec : {M : Type 1} → statement M
+hear-on-spec =
+    tie.close
+    (tie.spec
+    enum-told
+    enum-known-reference
+    capacity-of-requires
+    hear-settled-requires
+    same-length
+    same-length-2
+    returns
+    returns-2
+    returns-3)

@@ -1,0 +1,252 @@
+// Many points by one call: the state is looked at once, then the coordinates, then each point is read.
+ghost use mathlib.Core.Path.{_≡_};
+ghost use mathlib.Core.List.{map};
+ghost use Prim.Native.Nat.{_+_, _/_, _<_, _≤_};
+ghost use lib.ListN.{length};
+ghost use lib.Seq.{sets};
+ghost use Rattle.line.specs.Point.{at, pairs};
+ghost use Rattle.deciding.specs.Sizes.{ringOf};
+ghost use Rattle.coding.specs.Rows.{Rows};
+ghost use Rattle.receiver.specs.Receiver.{receiver, point, refusal, stateNext, forgotten, next};
+ghost use Rattle.receiver.specs.Outcome.{stateOutcome, gapOutcome, outcome};
+ghost use Rattle.receiver.specs.Calls.{after};
+ghost use Rattle.bulk.specs.Hearing.{Hearing, settledAt};
+ghost use Rattle.bulk.specs.Block.{lineByte, plainByte, outcomes, EachAccepted, blockRefusal, Told, block, lineBytes, plainBytes, step};
+use receiver::Intervals;
+use receiver::Receiver;
+use receiver::Reference;
+use scrambler::BitCount;
+use scrambler::Register;
+
+// The state after all points, or the number that refuses them.
+pub enum Block {
+    Refused(u8),
+    Taken(Receiver),
+}
+
+// The two bytes of a point, and the state after it.
+pub struct Step {
+    pub line: u8,
+    pub plain: u8,
+    pub next: Receiver,
+}
+
+// The state one interval on.
+fn moved(s: Receiver, reference: Reference, line: Register) -> Receiver
+    requires { ⌜ s .place .0 < 4294967295 ⌝ }
+    ensures { λ r. ⌜ r ≡ receiver (s .mode) (s .role) reference line (s .place .0 + 1) ⌝ }
+{
+    Receiver {
+        mode: s.mode,
+        role: s.role,
+        reference,
+        line,
+        place: Intervals(s.place.0 + 1),
+    }
+}
+
+// A point decided as the state y.
+fn take(rows: &[u8; 16], s: Receiver, y: u8) -> Step
+    requires { ⌜ Rows (s .mode) (now rows) × (s .place .0 < 4294967295) ⌝ }
+    ensures { λ r. ⌜ r ≡ step (stateOutcome s (s .reference) y) (stateNext s (s .reference) y) ⌝ }
+{
+    let reference = s.reference;
+    let h = s.line;
+    match reference {
+        Reference::Nothing => {
+            let next = moved(s, Reference::State(y), h);
+            Step {
+                line: 16,
+                plain: 0,
+                next,
+            }
+        }
+        Reference::State(x) => {
+            let line = coding::group_by(s.mode, rows, x, y);
+            let d = scrambler::descramble_group(s.mode, s.role, h, line);
+            let after = d.next;
+            let plain = 16 * d.unsettled.0 + d.plain;
+            let next = moved(s, Reference::State(y), after);
+            Step { line, plain, next }
+        }
+    }
+}
+
+// The origin: a gap of one interval.
+fn lose(s: Receiver) -> Step
+    requires { ⌜ s .place .0 < 4294967295 ⌝ }
+    ensures { λ r. ⌜ r ≡ step (gapOutcome s 1) (forgotten s 1) ⌝ }
+{
+    let line = scrambler::fresh_register();
+    let next = moved(s, Reference::Nothing, line);
+    Step {
+        line: 17,
+        plain: 0,
+        next,
+    }
+}
+
+// A point that nothing refuses, so that it is the origin or in a sector.
+fn hear(ring: &[u8; 16], rows: &[u8; 16], s: Receiver, re: i16, im: i16) -> Step
+    requires { ⌜ (now ring ≡ ringOf (s .mode)) × Rows (s .mode) (now rows) × (refusal s (point (at re im)) ≡ 0) ⌝ }
+    ensures { λ r. ⌜ r ≡ step (outcome s (point (at re im))) (next s (point (at re im))) ⌝ }
+{
+    if deciding::is_origin(re, im) {
+        return lose(s);
+    }
+    take(rows, s, deciding::state_at(s.mode, ring, re, im))
+}
+
+// A point of a block, and the state before it.
+struct Run {
+    at: usize,
+    state: Receiver,
+}
+
+// The receiver i intervals after s, with the reference x and a full register.
+fn settled(s: Receiver, x: u8, bits: u32, i: usize) -> Receiver
+    requires { ⌜ s .place .0 + i ≤ 4294967295 ⌝ }
+    ensures { λ r. ⌜ r ≡ settledAt s x bits i ⌝ }
+{
+    Receiver {
+        mode: s.mode,
+        role: s.role,
+        reference: Reference::State(x),
+        line: Register {
+            bits,
+            held: BitCount(line::capacity_of(s.mode)),
+        },
+        place: Intervals(s.place.0 + i as u32),
+    }
+}
+
+// Points that nothing refuses, from point `from` up to an origin or the end, after a reference and a full register: all data bits
+// are settled, and nothing but the reference and the register's bits changes. Nearly all points of all callers come through this
+// loop; all that it calls is put in line.
+fn hear_settled(
+    ring: &[u8; 16],
+    rows: &[u8; 16],
+    s: Receiver,
+    reference: u8,
+    points: &[i16],
+    line: &mut [u8],
+    plain: &mut [u8],
+    from: usize,
+) -> Run
+    requires { ⌜ (now ring ≡ ringOf (s .mode)) × Rows (s .mode) (now rows) × (s ≡ settledAt s reference (s .line .bits) 0) × Hearing s (now line) (now plain) (now points) from s (now line) (now plain) from
+        × (length (now points) / 2 ≤ length (now line)) × (length (now points) / 2 ≤ length (now plain)) ⌝ }
+    ensures { λ r. ⌜ Hearing s (now (line .entry)) (now (plain .entry)) (now (points .entry)) from (r .state) (now (line .exit)) (now (plain .exit)) (r .at) ⌝ }
+{
+    let n = points.len() / 2;
+    let mut x = reference;
+    let mut bits = s.line.bits;
+    let mut k = from;
+    while k < n {
+        let re = points[2 * k];
+        let im = points[2 * k + 1];
+        if deciding::is_origin(re, im) {
+            return Run {
+                at: k,
+                state: settled(s, x, bits, k - from),
+            };
+        }
+        let y = deciding::state_at(s.mode, ring, re, im);
+        let group = coding::group_by(s.mode, rows, x, y);
+        let d = scrambler::descramble_next(s.mode, s.role, bits, group);
+        line[k] = group;
+        plain[k] = d.plain;
+        bits = d.next.bits;
+        x = y;
+        k += 1;
+    }
+    Run {
+        at: k,
+        state: settled(s, x, bits, k - from),
+    }
+}
+
+// The same where the data bits are settled; else no point.
+fn hear_on(
+    ring: &[u8; 16],
+    rows: &[u8; 16],
+    s: Receiver,
+    points: &[i16],
+    line: &mut [u8],
+    plain: &mut [u8],
+    from: usize,
+) -> Run
+    requires { ⌜ (now ring ≡ ringOf (s .mode)) × Rows (s .mode) (now rows) × Hearing s (now line) (now plain) (now points) from s (now line) (now plain) from
+        × (length (now points) / 2 ≤ length (now line)) × (length (now points) / 2 ≤ length (now plain)) ⌝ }
+    ensures { λ r. ⌜ Hearing s (now (line .entry)) (now (plain .entry)) (now (points .entry)) from (r .state) (now (line .exit)) (now (plain .exit)) (r .at) ⌝ }
+{
+    let reference = s.reference;
+    match reference {
+        Reference::Nothing => Run { at: from, state: s },
+        Reference::State(x) => {
+            if s.line.held.0 == line::capacity_of(s.mode) {
+                return hear_settled(ring, rows, s, x, points, line, plain, from);
+            }
+            Run { at: from, state: s }
+        }
+    }
+}
+
+// Points that nothing refuses: one, then those after it whose data bits are settled, and so on.
+fn hear_all(s: Receiver, points: &[i16], line: &mut [u8], plain: &mut [u8]) -> Receiver
+    requires { ⌜ EachAccepted s (pairs (now points)) × (length (now points) / 2 ≤ length (now line)) × (length (now points) / 2 ≤ length (now plain)) ⌝ }
+    ensures { λ r. ⌜ (r ≡ after s (map point (pairs (now (points .entry)))))
+        × (now (line .exit) ≡ sets (now (line .entry)) 0 (map lineByte (outcomes s (pairs (now (points .entry))))))
+        × (now (plain .exit) ≡ sets (now (plain .entry)) 0 (map plainByte (outcomes s (pairs (now (points .entry)))))) ⌝ }
+{
+    let n = points.len() / 2;
+    let ring = deciding::ring_of(s.mode);
+    let rows = coding::rows_of(s.mode);
+    let mut t = s;
+    let mut k = 0;
+    while k < n {
+        let h = hear(&ring, &rows, t, points[2 * k], points[2 * k + 1]);
+        line[k] = h.line;
+        plain[k] = h.plain;
+        let next = h.next;
+        let r = hear_on(&ring, &rows, next, points, line, plain, k + 1);
+        let state = r.state;
+        t = state;
+        k = r.at;
+    }
+    t
+}
+
+// The number that refuses a block with a and b lent bytes, 0 for none. Number 10 is not looked for: no point is in no sector.
+fn block_fault(s: Receiver, points: &[i16], a: usize, b: usize) -> u8
+    ensures { λ r. ⌜ r ≡ blockRefusal s (now (points .entry)) a b ⌝ }
+{
+    let fault = receiver::state_fault(s);
+    if fault != 0 {
+        return fault;
+    }
+    let n = points.len() / 2;
+    if (points.len() % 2 == 0) & (n <= a) & (n <= b) {
+        if line::all_in_range(points) {
+            if n <= (4294967295 - s.place.0) as usize {
+                return 0;
+            }
+            return 16;
+        }
+        return 8;
+    }
+    7
+}
+
+// Takes points, re and im in turn, all or none, and writes the two bytes of each.
+pub fn receive_points(s: Receiver, points: &[i16], line: &mut [u8], plain: &mut [u8]) -> Block
+    ensures { λ r. ⌜ (r ≡ block s (now (points .entry)) (length (now (line .entry))) (length (now (plain .entry))))
+        × (now (line .exit) ≡ lineBytes s (now (points .entry)) (now (line .entry)) (length (now (plain .entry))))
+        × (now (plain .exit) ≡ plainBytes s (now (points .entry)) (length (now (line .entry))) (now (plain .entry))) ⌝ }
+    ensures { λ r. ⌜ Told s (now (points .entry)) (length (now (line .entry))) (length (now (plain .entry))) r ⌝ }
+{
+    let fault = block_fault(s, points, line.len(), plain.len());
+    if fault != 0 {
+        return Block::Refused(fault);
+    }
+    Block::Taken(hear_all(s, points, line, plain))
+}

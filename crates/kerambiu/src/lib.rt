@@ -1,0 +1,156 @@
+// The calls for C and Rust, by their exported names. What each does is in the crates that it calls; include/kerambiu.h declares them.
+ghost use mathlib.Core.Path.{_≡_};
+ghost use lib.ListN.{length as size};
+ghost use Rattle.line.specs.Point.{at};
+ghost use Rattle.receiver.specs.Receiver.{point, gap};
+ghost use Rattle.store.specs.Reading.{readNumber, readCount, readResult};
+ghost use Rattle.track.specs.Append.{makeNumber, makeResult, lostNumber, lostResult, pointNumber, pointResult};
+ghost use Rattle.track.specs.Points.{pointsNumber, pointsResult};
+ghost use Rattle.listing.specs.Text.{listNumber, listCount, listResult};
+ghost use Rattle.lent_receiver.specs.Receiving.{freshNumber, freshState, callNumber, callState, callAnswer, blockNumber, blockState, blockLine, blockPlain};
+ghost use Rattle.lent_sender.specs.Sending.{openNumber, openState, openOut, sendNumber, sendState, sendOut};
+ghost use Rattle.kerambiu.specs.Counted.{countedNumber, countedOut, countedCounts};
+
+// ---- the receiver's calls
+
+// A receiver that has taken nothing: 0, or the number that refuses it.
+#[no_mangle]
+pub extern "C" fn kerambiu_fresh(state: &mut [u8], mode: u8, role: u8) -> u8
+    ensures { λ r. ⌜ (r ≡ freshNumber (now (state .entry)) mode role) × (now (state .exit) ≡ freshState (now (state .entry)) mode role) ⌝ }
+{
+    lent_receiver::fresh(state, mode, role)
+}
+
+// A point: 0, or the number that refuses it.
+#[no_mangle]
+pub extern "C" fn kerambiu_receive_point(
+    state: &mut [u8],
+    re: i16,
+    im: i16,
+    answer: &mut [u8],
+) -> u8
+    ensures { λ r. ⌜ (r ≡ callNumber (now (state .entry)) (now (answer .entry)) (point (at re im))) × (now (state .exit) ≡ callState (now (state .entry)) (now (answer .entry)) (point (at re im))) × (now (answer .exit) ≡ callAnswer (now (state .entry)) (now (answer .entry)) (point (at re im))) ⌝ }
+{
+    lent_receiver::receive_point(state, re, im, answer)
+}
+
+// Points, re and im in turn, all or none: 0, or the number that refuses them.
+#[no_mangle]
+pub extern "C" fn kerambiu_receive_points(
+    state: &mut [u8],
+    points: &[i16],
+    line: &mut [u8],
+    plain: &mut [u8],
+) -> u8
+    ensures { λ r. ⌜ (r ≡ blockNumber (now (state .entry)) (now (points .entry)) (now (line .entry)) (now (plain .entry)))
+        × (now (state .exit) ≡ blockState (now (state .entry)) (now (points .entry)) (now (line .entry)) (now (plain .entry)))
+        × (now (line .exit) ≡ blockLine (now (state .entry)) (now (points .entry)) (now (line .entry)) (now (plain .entry)))
+        × (now (plain .exit) ≡ blockPlain (now (state .entry)) (now (points .entry)) (now (line .entry)) (now (plain .entry))) ⌝ }
+{
+    lent_receiver::receive_points(state, points, line, plain)
+}
+
+// A gap of n intervals: 0, or the number that refuses it.
+#[no_mangle]
+pub extern "C" fn kerambiu_receive_gap(state: &mut [u8], n: u32, answer: &mut [u8]) -> u8
+    ensures { λ r. ⌜ (r ≡ callNumber (now (state .entry)) (now (answer .entry)) (gap n)) × (now (state .exit) ≡ callState (now (state .entry)) (now (answer .entry)) (gap n)) × (now (answer .exit) ≡ callAnswer (now (state .entry)) (now (answer .entry)) (gap n)) ⌝ }
+{
+    lent_receiver::receive_gap(state, n, answer)
+}
+
+// ---- the sender's calls
+
+// Opens a sender: its training stands in `out` from `offset` on. 0, or the number that refuses it. Without room for the state
+// the offset is one past the end of `out`, so that number 7 is left where no lower one applies.
+#[no_mangle]
+pub extern "C" fn kerambiu_open(
+    state: &mut [u8],
+    mode: u8,
+    role: u8,
+    length: u32,
+    out: &mut [i16],
+    offset: usize,
+) -> u8
+    ensures { λ r. ⌜ (r ≡ openNumber (now (state .entry)) mode role length (now (out .entry)) offset) × (now (state .exit) ≡ openState (now (state .entry)) mode role length (now (out .entry)) offset) × (now (out .exit) ≡ openOut (now (state .entry)) mode role length (now (out .entry)) offset) ⌝ }
+{
+    lent_sender::open(state, mode, role, length, out, offset)
+}
+
+// Sends data bits, one in a byte: their points stand in `out` from `offset` on. 0, or the number that refuses it.
+#[no_mangle]
+pub extern "C" fn kerambiu_send(
+    state: &mut [u8],
+    input: &[u8],
+    out: &mut [i16],
+    offset: usize,
+) -> u8
+    ensures { λ r. ⌜ (r ≡ sendNumber (now (state .entry)) (now (input .entry)) (now (out .entry)) offset) × (now (state .exit) ≡ sendState (now (state .entry)) (now (input .entry)) (now (out .entry)) offset) × (now (out .exit) ≡ sendOut (now (state .entry)) (now (input .entry)) (now (out .entry)) offset) ⌝ }
+{
+    lent_sender::send(state, input, out, offset)
+}
+
+// ---- the track store's calls
+
+#[no_mangle]
+pub extern "C" fn kerambiu_make(store: &mut [u8], mode: u8, role: u8) -> u8
+    ensures { λ r. ⌜ (r ≡ makeNumber (now (store .entry)) mode role) × (now (store .exit) ≡ makeResult (now (store .entry)) mode role) ⌝ }
+{
+    track::make(store, mode, role)
+}
+
+#[no_mangle]
+pub extern "C" fn kerambiu_append_point(store: &mut [u8], re: i16, im: i16) -> u8
+    ensures { λ r. ⌜ (r ≡ pointNumber (now (store .entry)) (at re im)) × (now (store .exit) ≡ pointResult (now (store .entry)) (at re im)) ⌝ }
+{
+    track::append_point(store, re, im)
+}
+
+#[no_mangle]
+pub extern "C" fn kerambiu_append_lost(store: &mut [u8], n: u32) -> u8
+    ensures { λ r. ⌜ (r ≡ lostNumber (now (store .entry)) n) × (now (store .exit) ≡ lostResult (now (store .entry)) n) ⌝ }
+{
+    track::append_lost(store, n)
+}
+
+#[no_mangle]
+pub extern "C" fn kerambiu_append_points(store: &mut [u8], points: &[i16]) -> u8
+    ensures { λ r. ⌜ (r ≡ pointsNumber (now (store .entry)) (now (points .entry))) × (now (store .exit) ≡ pointsResult (now (store .entry)) (now (points .entry))) ⌝ }
+{
+    track::append_points(store, points)
+}
+
+// Reads all events, three numbers for each, into `out` from `offset` on, and how many there are into `count`: 0, or the number
+// that refuses it.
+#[no_mangle]
+pub extern "C" fn kerambiu_read(
+    store: &[u8],
+    out: &mut [i64],
+    offset: usize,
+    count: &mut [usize],
+) -> u8
+    ensures { λ r. ⌜ (r ≡ countedNumber (now (count .entry)) (readNumber (now (store .entry)) (size (now (out .entry))) offset)) × (now (out .exit) ≡ countedOut (now (count .entry)) (readResult (now (store .entry)) (now (out .entry)) offset) (now (out .entry))) × (now (count .exit) ≡ countedCounts (now (count .entry)) (readNumber (now (store .entry)) (size (now (out .entry))) offset) (readCount (now (store .entry)) (size (now (out .entry))) offset)) ⌝ }
+{
+    if count.len() < 1 {
+        return 7;
+    }
+    let reading = track::read(store, out, offset);
+    if reading.number == 0 {
+        count[0] = reading.count;
+    }
+    reading.number
+}
+
+// Writes the listing of a store into `out`, and how many bytes it has into `count`: 0, or the number that refuses it.
+#[no_mangle]
+pub extern "C" fn kerambiu_list(store: &[u8], out: &mut [u8], count: &mut [usize]) -> u8
+    ensures { λ r. ⌜ (r ≡ countedNumber (now (count .entry)) (listNumber (size (now (out .entry))))) × (now (out .exit) ≡ countedOut (now (count .entry)) (listResult (now (store .entry)) (now (out .entry))) (now (out .entry))) × (now (count .exit) ≡ countedCounts (now (count .entry)) (listNumber (size (now (out .entry)))) (listCount (now (store .entry)) (size (now (out .entry))))) ⌝ }
+{
+    if count.len() < 1 {
+        return 7;
+    }
+    let listed = listing::list(store, out);
+    if listed.number == 0 {
+        count[0] = listed.count;
+    }
+    listed.number
+}
