@@ -28,6 +28,11 @@ below zero = []
 below (suc n) = n ∷ below n
 
 -- the test holds of every member
-abbrev pub every : (ℕ → Bool) → List ℕ → Bool
+abbrev pub every : {A : Type 0} → (A → Bool) → List A → Bool
 every f [] = true
 every f (x ∷ xs) = f x && every f xs
+
+-- the statement does
+abbrev pub All : {A : Type 0} → (A → Type 0) → List A → Type 0
+All P [] = Unit {0}
+All P (x ∷ xs) = P x × All P xs

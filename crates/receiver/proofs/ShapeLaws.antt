@@ -22,7 +22,8 @@ use Rattle.scrambler.proofs.RegisterLaws.{Ok}
 use Rattle.receiver.specs.declared.Reference.the-variants.{State as some}
 use Rattle.receiver.specs.declared.Receiver.{Receiver}
 use Rattle.receiver.specs.Receiver.{receiver, Event, point, gap, stateRefusal, inSector, refusal, refused, decoded, lineBits, stateAnswer, pointAnswer, eventAnswer, answer, stateLine, stateNext, pointNext, eventNext, next}
-use Rattle.receiver.specs.Calls.{Heard, heard, All, IsPoint, decidedAs, decidedStates, linesHeard, row, dataHeard}
+use Rattle.line.specs.Table.{All}
+use Rattle.receiver.specs.Calls.{Heard, heard, IsPoint, decidedAs, decidedStates, linesHeard, row, dataHeard}
 use Rattle.receiver.specs.Turn.{lines}
 use Rattle.coding.proofs.DecideLaws.{Off}
 use Rattle.receiver.proofs.OutcomeLaws.{in-sector}

@@ -1,6 +1,7 @@
 -- Document 01, "Lists of calls": the state after a list, and the accepted calls of a list with their answers.
 use Prim.Native.Nat.{ℕ, _+_}
 use mathlib.Core.Bool.{Bool, false, not}
+use mathlib.Core.Path.{_≡_}
 use mathlib.Core.List.{List, [], _∷_, _++_, map}
 use lib.Dec.{T}
 use lib.ListN.{drop}
@@ -16,6 +17,11 @@ abbrev pub after : Receiver → List Event → Receiver
 after s [] = s
 after s (e ∷ es) = after (next s e) es
 
+-- no call of a list is refused
+abbrev pub EachAccepted : Receiver → List Event → Type 0
+EachAccepted s [] = Unit {0}
+EachAccepted s (e ∷ es) = (refusal s e ≡ 0) × EachAccepted (next s e) es
+
 pub record Heard : Type 0 where
   pub event : Event
   pub answered : Answer
@@ -30,10 +36,6 @@ heard s (e ∷ es) =
 abbrev pub heardIntervals : List Heard → ℕ
 heardIntervals [] = 0
 heardIntervals (x ∷ xs) = intervals (x .event) + heardIntervals xs
-
-abbrev pub All : {A : Type 0} → (A → Type 0) → List A → Type 0
-All P [] = Unit {0}
-All P (x ∷ xs) = P x × All P xs
 
 -- no gap and no origin point
 abbrev pub isPoint : Event → Bool
@@ -80,6 +82,3 @@ dataHeard xs = row (map (λ (x : Heard). dataOf (x .answered)) xs)
 -- the same from the second point on
 abbrev pub linesFrom2 : List Heard → List (List ℕ)
 linesFrom2 xs = linesHeard (drop 1 xs)
-
-abbrev pub dataFrom2 : List Heard → List Datum
-dataFrom2 xs = dataHeard (drop 1 xs)

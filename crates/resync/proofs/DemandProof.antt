@@ -5,7 +5,8 @@ use mathlib.Core.List.{List}
 use mathlib.Core.Logic.{⊎-elim}
 use Rattle.receiver.specs.declared.Receiver.{Receiver}
 use Rattle.receiver.specs.Receiver.{Event}
-use Rattle.receiver.specs.Calls.{after, Heard, heard, All, IsPoint}
+use Rattle.line.specs.Table.{All}
+use Rattle.receiver.specs.Calls.{after, Heard, heard, IsPoint}
 use Rattle.receiver.proofs.CallLaws.{same-after}
 use Rattle.receiver.proofs.ShapeLaws.{shape}
 use Rattle.resync.specs.Demand.{events, Demand3}

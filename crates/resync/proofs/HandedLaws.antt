@@ -22,7 +22,8 @@ use Rattle.scrambler.specs.declared.Register.{Register}
 use Rattle.scrambler.specs.Bits.{bits}
 use Rattle.scrambler.specs.Scramble.{Datum, settled, descramble}
 use Rattle.receiver.specs.Receiver.{Event, point, gap}
-use Rattle.receiver.specs.Calls.{Heard, All, decidedAs, decidedStates, row}
+use Rattle.line.specs.Table.{All}
+use Rattle.receiver.specs.Calls.{Heard, decidedAs, decidedStates, row}
 use Rattle.receiver.specs.Turn.{lines}
 use Rattle.sender.specs.declared.Sender.{Sender}
 use Rattle.sender.specs.Calls.{DataPoint}

@@ -29,7 +29,8 @@ use Rattle.receiver.specs.declared.Reference.{Reference}
 use Rattle.receiver.specs.declared.Reference.the-variants.{Nothing as none, State as some}
 use Rattle.receiver.specs.declared.Receiver.{Receiver}
 use Rattle.receiver.specs.Receiver.{Event, point, gap, Answer, refused, reference, decoded, lost, refusal, lineBits, stateAnswer, pointAnswer, eventAnswer, answer, next}
-use Rattle.receiver.specs.Calls.{Heard, heard, All, IsPoint, decidedAs, lineOf, dataOf, decidedStates, linesHeard, linesFrom2, dataHeard, row}
+use Rattle.line.specs.Table.{All}
+use Rattle.receiver.specs.Calls.{Heard, heard, IsPoint, decidedAs, lineOf, dataOf, decidedStates, linesHeard, linesFrom2, dataHeard, row}
 use Rattle.receiver.specs.Turn.{lines, linesOf, Turned}
 use Rattle.receiver.proofs.ShapeLaws.{Follows, Shape}
 use Rattle.receiver.proofs.TurnLaws.{lines→turned, turned→lines}

@@ -13,7 +13,8 @@ use Rattle.scrambler.specs.Register.{push, pushes}
 use Rattle.scrambler.specs.Scramble.{Datum, descramble}
 use Rattle.scrambler.proofs.GroupLaws.{descramble-append, length-descramble}
 use Rattle.scrambler.proofs.RegisterLaws.{same-after, full-push}
-use Rattle.receiver.specs.Calls.{All, row}
+use Rattle.line.specs.Table.{All}
+use Rattle.receiver.specs.Calls.{row}
 use Rattle.resync.specs.Assured.{AllSettled}
 
 -- drop from a row of groups of w

@@ -4,7 +4,8 @@ use mathlib.Core.List.{List, [], _∷_}
 use lib.ListN.{drop}
 use Rattle.line.specs.Mode.{byMode}
 use Rattle.scrambler.specs.Scramble.{Datum, unsettled, settled}
-use Rattle.receiver.specs.Calls.{Heard, All, dataHeard}
+use Rattle.line.specs.Table.{All}
+use Rattle.receiver.specs.Calls.{Heard, dataHeard}
 
 -- "point 6 (mode 1), 5 (mode 2), 14 (mode 3), 8 (mode 4)", counted from 1
 unfoldable pub assuredPoint : ℕ → ℕ

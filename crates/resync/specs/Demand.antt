@@ -7,7 +7,8 @@ use lib.ListN.{length}
 use Rattle.scrambler.specs.Scramble.{Datum, settled}
 use Rattle.receiver.specs.declared.Receiver.{Receiver}
 use Rattle.receiver.specs.Receiver.{Event}
-use Rattle.receiver.specs.Calls.{after, Heard, heard, All, IsPoint, decidedStates, linesFrom2}
+use Rattle.line.specs.Table.{All}
+use Rattle.receiver.specs.Calls.{after, Heard, heard, IsPoint, decidedStates, linesFrom2}
 use Rattle.receiver.specs.Turn.{Turned}
 use Rattle.sender.specs.Calls.{DataPoint}
 use Rattle.resync.specs.Assured.{assuredPoint, dataFrom, AllSettled}

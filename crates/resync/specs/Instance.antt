@@ -9,7 +9,8 @@ use Rattle.line.specs.Point.{turned}
 use Rattle.scrambler.specs.Register.{register}
 use Rattle.receiver.specs.declared.Receiver.{Receiver}
 use Rattle.receiver.specs.Receiver.{Event, point, gap, freshReceiver}
-use Rattle.receiver.specs.Calls.{after, heard, All, IsPoint, decidedStates}
+use Rattle.line.specs.Table.{All}
+use Rattle.receiver.specs.Calls.{after, heard, IsPoint, decidedStates}
 use Rattle.receiver.specs.Turn.{Turned}
 use Rattle.sender.specs.declared.Sender.{Sender}
 use Rattle.sender.specs.Calls.{Send, DataPoint, dataPoints}
