@@ -1,5 +1,5 @@
 -- The square of a small number fits 64 bits. Assumes nothing.
-use Prim.Native.Nat.{ℕ, _*_, _≤_, _<_, _^_}
+use Prim.Native.Nat.{ℕ, _*_, _≤_, _^_}
 use native.Mathlib.Nat.{mul-le-mul, mul-le-mul-left, lt-of-le-of-lt}
 use lib.Dec.{T, ltb, ltb→lt}
 use mir.Syntax.{w64}

@@ -6,3 +6,4 @@ pub mod SizeLaws
 pub mod Squares
 pub mod RingLaws
 pub mod SectorLaws
+pub mod DecideLaws

@@ -1,21 +1,16 @@
 -- The regions of a mode: each point off the origin lies in exactly one of the first region's four turns, and its answer turns with it.
 -- Assumes nothing.
-use mathlib.Core.Path.{_≡_, refl, sym, ap, ap₂, _∙_, subst}
-use mathlib.Core.Bool.{Bool, true, false, _&&_, not, cond, and-false}
+use mathlib.Core.Path.{_≡_, refl, ap, ap₂, _∙_, subst}
+use mathlib.Core.Bool.{Bool, true, false, _&&_, cond, and-false}
 use Prim.Native.Nat.{ℕ, zero, suc, _+_, _*_, _-_, _%_, _<_, _≤_}
 use native.Mathlib.Omega.{arith}
-use native.Mathlib.Decide.{decLe}
-use borrow.Author.Tests.{le-leb, lt-leb, lt-ltb, le-ltb}
-use lib.Dec.{T, eqb, leb, ltb, eqb→eq}
-use lib.IntN.{ℤ, pos, negsuc, negℤ, natAbs, negℤ-negℤ, subℕ, _+ℤ_, _-ℤ_, _*ℤ_}
-use lib.Signed.{ltZ, leZ}
+use borrow.Author.Tests.{le-leb, lt-leb}
+use lib.Dec.{T, eqb, leb, eqb→eq}
+use lib.IntN.{ℤ, pos, negsuc, natAbs, negℤ-negℤ, subℕ, _+ℤ_}
 use Rattle.line.specs.declared.Point.{Point}
-use Rattle.deciding.specs.declared.Decision.{Decision}
-use Rattle.deciding.specs.declared.Decision.the-variants.{State, Origin, NoSector}
 use Rattle.line.specs.Table.{below, every}
-use Rattle.line.specs.Mode.{isMode}
 use Rattle.line.specs.Point.{at, isOrigin, turned, turnedBy}
-use Rattle.deciding.specs.Decide.{within45, inFirst, first, turnedAnswer, quarters, decideBy, decide}
+use Rattle.deciding.specs.Decide.{within45, inFirst, first, turnedAnswer, quarters, decide}
 use Rattle.line.proofs.ByMode.{mode-1, mode-2, mode-3, mode-4}
 use Rattle.line.proofs.TableLaws.{below-at}
 use Rattle.deciding.proofs.Differences.{pos-difference, negated-difference, sum-difference, less-difference, below-difference, triple-difference, within-difference}

@@ -1,6 +1,6 @@
 -- The tests of a branch, for `search`: a definition that goes by `leb`, `ltb`, `eqb` or by the mode takes the way that the code took.
 -- Assumes nothing.
-use mathlib.Core.Path.{_≡_, refl, subst, sym, ap}
+use mathlib.Core.Path.{_≡_, ap}
 use mathlib.Core.Bool.{Bool, true, false, cond}
 use borrow.Author.Needs.{needs}
 use borrow.Author.Tests.{le-leb, lt-leb, eq-eqb, ne-eqb, lt-ltb, le-ltb}

@@ -27,7 +27,7 @@ use Rattle.receiver.specs.declared.Receiver.{Receiver}
 use Rattle.line.specs.Refusal.{modeRefusal}
 use Rattle.receiver.specs.Receiver.{freshReceiver, Event, point, gap, isFresh, fieldsOk, stateRefusal, refusal, refused, reference, lost, lineBits, stateAnswer, pointAnswer, eventAnswer, answer, intervals, placeAfter, forgotten, stateLine, stateNext, pointNext, eventNext, next}
 use Rattle.receiver.specs.Calls.{after, Heard, heard, heardIntervals}
-use Rattle.coding.proofs.DecideLaws.{Off, decide-off}
+use Rattle.deciding.proofs.DecideLaws.{Off, decide-off}
 use Rattle.receiver.proofs.OutcomeLaws.{next-placed}
 
 -- NUMBERS 1, 2 AND 4

@@ -25,7 +25,7 @@ use Rattle.receiver.specs.Receiver.{receiver, Event, point, gap, stateRe
 use Rattle.line.specs.Table.{All}
 use Rattle.receiver.specs.Calls.{Heard, heard, IsPoint, decidedAs, decidedStates, linesHeard, row, dataHeard}
 use Rattle.receiver.specs.Turn.{lines}
-use Rattle.coding.proofs.DecideLaws.{Off}
+use Rattle.deciding.proofs.DecideLaws.{Off}
 use Rattle.receiver.proofs.OutcomeLaws.{in-sector}
 use Rattle.receiver.proofs.CallLaws.{Valid, accepted-valid, accepted-off, line-register}
 

@@ -10,16 +10,16 @@ use Rattle.line.specs.Table.{every}
 use Rattle.line.specs.Mode.{isMode, width, face, turns, isState}
 use Rattle.coding.specs.Code.{group, coded}
 use Rattle.line.proofs.TableLaws.{and-left, and-right}
-use Rattle.coding.proofs.ModeLaws.{OfPair, of-state}
+use Rattle.coding.proofs.ModeLaws.{OfPair, of-pair}
 use Rattle.scrambler.specs.Bits.{bits, value}
 use Rattle.scrambler.proofs.BitLaws.{value-bits}
 use Rattle.receiver.specs.Receiver.{lineBits}
 use Rattle.receiver.specs.Turn.{lines, linesOf, Turned}
-use Rattle.coding.proofs.DecideLaws.{turns-state}
+use Rattle.line.proofs.StateLaws.{turns-state}
 
 module _ (m : ℕ) (hm : T (isMode m)) where
   pair : (x y : ℕ) → T (isState m x) → T (isState m y) → OfPair m x y
-  pair x y hx hy = of-state m x hm hx .pair y hy
+  pair x y hx hy = of-pair m x hm hx y hy
 
   group-turns : (k x y : ℕ) → T (isState m x) → T (isState m y) → group m (face m (turns m k x)) (turns m k y) ≡ group m (face m x) y
   group-turns zero x y hx hy = refl

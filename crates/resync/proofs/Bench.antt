@@ -1,20 +1,14 @@
 -- The bench points hold. Assumes nothing.
-use Rattle.coding.proofs.Bench.{line-bench}
+use mathlib.Core.Path.{refl}
+use Rattle.line.specs.Table.{entry}
+use Rattle.line.specs.Mode.{step, quarterSteps, quadrant, nextQuadrant, turn, face}
+use Rattle.line.specs.Point.{isOrigin}
+use Rattle.deciding.specs.Decide.{inFirst, sector, outer, first, turnedAnswer, quarters, decide}
+use Rattle.coding.specs.Code.{changes16, coded}
 use Rattle.training.proofs.Bench.{training-bench}
 use Rattle.resync.specs.Bench.{BenchPoints}
 
 pub bench-points : BenchPoints
+unfolding entry step quarterSteps quadrant nextQuadrant turn face isOrigin inFirst sector outer first turnedAnswer quarters decide changes16 coded
 bench-points =
-    let d = line-bench .decided in (
-      (d .0, (d .1 .0, (d .1 .1 .0, (d .1 .1 .1 .0, tt)))),
-      (
-        (d .1 .1 .1 .1 .0, (d .1 .1 .1 .1 .1 .0, tt)),
-        (
-          (d .1 .1 .1 .1 .1 .1 .0, (d .1 .1 .1 .1 .1 .1 .1 .0, tt)),
-          (
-            (d .1 .1 .1 .1 .1 .1 .1 .1 .0, (d .1 .1 .1 .1 .1 .1 .1 .1 .1 .0, tt)),
-            (training-bench, (line-bench .coded-8, tt)),
-          ),
-        ),
-      ),
-    )
+    ((refl, (refl, (refl, (refl, tt)))), ((refl, (refl, tt)), ((refl, (refl, tt)), ((refl, (refl, tt)), (training-bench, (refl, tt))))))

@@ -1,26 +1,19 @@
 -- Data points as they are handed on, and the bits that a receiver reads of them. Assumes nothing.
 use Prim.Native.Nat.{ℕ, zero, suc, _+_, _*_, _-_, _<_, _≤_}
-use mathlib.Core.Path.{_≡_, refl, sym, _∙_, ap, ap₂, subst, subst₂}
-use mathlib.Core.Bool.{Bool, true, false, cond}
+use mathlib.Core.Path.{_≡_, refl, sym, _∙_, ap, ap₂, subst₂}
 use mathlib.Core.List.{List, [], _∷_, _++_, map, map-append, append-assoc}
 use mathlib.Core.Logic.{⊎-elim}
 use native.Mathlib.Omega.{arith}
 use borrow.Author.Tests.{eq-eqb}
-use lib.Dec.{T, eqb, leb, leb→le}
+use lib.Dec.{leb, leb→le}
 use lib.IntN.{ℤ, pos}
 use lib.ListN.{length, getD, take, drop, length-map, length-append}
 use lib.Seq.{sets, drop-at, take-at, drop-nil}
 use Rattle.line.proofs.RefusalLaws.{need-met, need-rest}
-use Rattle.deciding.specs.declared.Decision.{Decision}
-use Rattle.deciding.specs.declared.Decision.the-variants.{State, Origin, NoSector}
-use Rattle.line.specs.declared.Point.{Point}
-use Rattle.line.specs.Mode.{width, capacity, face}
-use Rattle.line.specs.Point.{at}
+use Rattle.line.specs.Mode.{width}
 use Rattle.deciding.specs.Decide.{decide, stateIn}
-use Rattle.coding.specs.Code.{group}
-use Rattle.scrambler.specs.declared.Register.{Register}
 use Rattle.scrambler.specs.Bits.{bits}
-use Rattle.scrambler.specs.Scramble.{Datum, settled, descramble}
+use Rattle.scrambler.specs.Scramble.{settled, descramble}
 use Rattle.receiver.specs.Receiver.{Event, point, gap}
 use Rattle.line.specs.Table.{All}
 use Rattle.receiver.specs.Calls.{Heard, decidedAs, decidedStates, row}
@@ -29,7 +22,7 @@ use Rattle.sender.specs.declared.Sender.{Sender}
 use Rattle.sender.specs.Calls.{DataPoint}
 use Rattle.sender.specs.Sender.{afterGroup}
 use Rattle.sender.proofs.SendLaws.{group-mode}
-use Rattle.sender.proofs.DataLaws.{Made, From, consecutive, statesOf, lineBits, given, Reads, from-reads}
+use Rattle.sender.proofs.DataLaws.{Made, From, consecutive}
 use Rattle.store.specs.Layout as Stored
 use Rattle.octets.proofs.Sets.{getD-sets-in}
 use Rattle.line.specs.Refusal.{orNext}
@@ -41,6 +34,7 @@ use Rattle.resync.specs.Assured.{assuredPoint, dataFrom}
 use Rattle.resync.specs.DataPoints.{Consecutive, received, appended, eventIn, eventsIn, ReadBack, Handed, givenFrom}
 use Rattle.resync.specs.Demand as Demand
 use Rattle.resync.proofs.RowLaws.{drop-row, map-drop}
+use Rattle.resync.proofs.ReadLaws.{statesOf, given, Reads, from-reads}
 use Rattle.resync.proofs.ReceivedLaws.{Received, data-any, enough}
 
 -- READ BACK AS WRITTEN
@@ -137,10 +131,6 @@ made-sized : (m : ℕ) (s : Sender) (ds : List DataPoint) → s .mode ≡ m → 
 made-sized m s [] e k = tt
 made-sized m s (d ∷ ds) e k = (k .1 ∙ ap width e, made-sized m (afterGroup s (d .bits)) ds (group-mode s (d .bits) ∙ e) (k .4))
 
-given-row : (ds : List DataPoint) → given ds ≡ row (map (λ (d : DataPoint). d .bits) ds)
-given-row [] = refl
-given-row (d ∷ ds) = ap (λ (l : List ℕ). d .bits ++ l) (given-row ds)
-
 drop-map : {A B : Type 0} (f : A → B) (n : ℕ) (xs : List A) → drop n (map f xs) ≡ map f (drop n xs)
 drop-map f n xs = sym (map-drop f n xs)
 
@@ -154,10 +144,6 @@ states-same m (x ∷ xs) (d ∷ ds) e =
     let e1 : Demand.events xs ≡ received ds = cc in
     ap₂ _∷_ (ap (decidedAs m) e0) (states-same m xs ds e1)
 
-row-lines : (m x : ℕ) (ys : List ℕ) → row (lines m x ys) ≡ lineBits m x ys
-row-lines m x [] = refl
-row-lines m x (y ∷ ys) = ap (λ (l : List ℕ). bits (width m) (group m (face m x) y) ++ l) (row-lines m y ys)
-
 pub sender-data : (m role : ℕ) (xs : List Heard) (ds : List DataPoint) → Received m role xs → Consecutive m role ds → Demand.events xs ≡ received ds
     → dataFrom (assuredPoint m) xs ≡ map settled (givenFrom (assuredPoint m) ds)
 sender-data m role [] [] k c e = rw (drop-nil {A = Heard} (assuredPoint m - 1), drop-nil {A = DataPoint} (assuredPoint m - 1))
@@ -170,13 +156,12 @@ sender-data m role (x ∷ xs) (d ∷ ds) k c e =
     let q = enough m (k .shape .0) in
     let e0 : x .event ≡ point (d .point) = cc in
     let e1 : Demand.events xs ≡ received ds = cc in
-    let g : row (lines m (decidedAs m (x .event)) (decidedStates m xs)) ≡ lineBits m (stateIn (decide m (d .point))) (statesOf m ds) =
-    row-lines m (decidedAs m (x .event)) (decidedStates m xs) ∙ ap₂ (lineBits m) (ap (decidedAs m) e0) (states-same m xs ds e1) in
+    let g : row (lines m (decidedAs m (x .event)) (decidedStates m xs)) ≡ row (lines m (stateIn (decide m (d .point))) (statesOf m ds)) =
+    ap₂ (λ (y : ℕ) (ys : List ℕ). row (lines m y ys)) (ap (decidedAs m) e0) (states-same m xs ds e1) in
     let z : All (λ (h : List ℕ). length h ≡ width m) (map (λ (t : DataPoint). t .bits) ds) = made-sized m (f .sender) (d ∷ ds) (f .mode) (f .made-by) .1 in
     data-any m role x xs k (r .line)
     ∙ ap (λ (l : List ℕ). drop ((p - 2) * width m) (descramble m role (r .line) l)) g
     ∙ ap (drop ((p - 2) * width m)) (r .reads)
     ∙ drop-map settled ((p - 2) * width m) (given ds)
-    ∙ ap (λ (l : List ℕ). map settled (drop ((p - 2) * width m) l)) (given-row ds)
     ∙ ap (map settled) (drop-row (width m) (p - 2) (map (λ (t : DataPoint). t .bits) ds) z ∙ ap row (drop-map (λ (t : DataPoint). t .bits) (p - 2) ds))
     ∙ ap (λ (n : ℕ). map settled (row (map (λ (t : DataPoint). t .bits) (drop n (d ∷ ds))))) (let w : suc (p - 2) ≡ p - 1 = omega arith in w)

@@ -1,5 +1,6 @@
 pub mod RowLaws
 pub mod ReceivedLaws
+pub mod ReadLaws
 pub mod HandedLaws
 pub mod DemandProof
 pub mod Instance

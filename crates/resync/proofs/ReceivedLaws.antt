@@ -17,7 +17,7 @@ use Rattle.deciding.specs.Decide.{decide}
 use Rattle.coding.specs.Code.{group}
 use Rattle.line.specs.Refusal.{accepted}
 use Rattle.line.proofs.ByMode.{by-all}
-use Rattle.coding.proofs.ModeLaws.{mode-cases}
+use Rattle.line.proofs.StateLaws.{mode-cases}
 use Rattle.line.proofs.TableLaws.{and-intro}
 use Rattle.scrambler.specs.declared.Register.{Register}
 use Rattle.scrambler.specs.Bits.{bits}

@@ -3,10 +3,26 @@ use mathlib.Core.Path.{_≡_}
 use mathlib.Core.List.{List, [], _∷_}
 use Prim.Native.Nat.{ℕ}
 use lib.IntN.{ℤ, pos, negsuc}
+use Rattle.deciding.specs.declared.Decision.the-variants.{State}
 use Rattle.line.specs.Mode.{face}
+use Rattle.line.specs.Point.{at}
+use Rattle.deciding.specs.Decide.{decide}
 use Rattle.coding.specs.Code.{coded}
-use Rattle.coding.specs.Bench.{row, AllDecided}
 use Rattle.training.specs.Bench.{TrainingBench}
+
+-- a mode, a point, and the state that it is decided as
+pub record Decided : Type 0 where
+  pub mode : ℕ
+  pub re : ℤ
+  pub im : ℤ
+  pub state : ℕ
+
+abbrev pub row : ℕ → ℤ → ℤ → ℕ → Decided
+row m x y s = record { mode = m; re = x; im = y; state = s }
+
+abbrev pub AllDecided : List Decided → Type 0
+AllDecided [] = Unit {0}
+AllDecided (p ∷ ps) = (decide (p .mode) (at (p .re) (p .im)) ≡ State (p .state)) × AllDecided ps
 
 -- every statement of a list holds
 abbrev pub AllHold : List (Type 0) → Type 0

@@ -9,7 +9,7 @@ use lib.ListN.{length, replicate}
 use Rattle.line.specs.Mode.{isMode, width, capacity, isState, face}
 use Rattle.coding.specs.Code.{coded}
 use Rattle.line.proofs.ByMode.{by-all}
-use Rattle.coding.proofs.ModeLaws.{OfGroup, of-state}
+use Rattle.coding.proofs.ModeLaws.{OfGroup, of-group}
 use Rattle.scrambler.specs.declared.Register.{Register}
 use Rattle.scrambler.specs.declared.Scrambled.{Scrambled}
 use Rattle.scrambler.specs.Bits.{bits, value}
@@ -77,7 +77,7 @@ group-fits m role h d l =
     subst (λ (n : ℕ). value (scramble m role h d) < 2 ^ n) (length-scramble m role h d ∙ l) (value-small (scramble m role h d) (bits-scramble m role h d))
 
 pub lands : (m role : ℕ) (c : Coder) (d : List ℕ) → T (isMode m) → Ready m c → length d ≡ width m → OfGroup m (c .reference) (value (scramble m role (c .line) d))
-lands m role c d hm k l = of-state m (c .reference) hm (k .state) .groups _ (group-fits m role (c .line) d l)
+lands m role c d hm k l = of-group m (c .reference) hm (k .state) _ (group-fits m role (c .line) d l)
 
 pub ready-coding : (m role : ℕ) (c : Coder) (d : List ℕ) → T (isMode m) → Ready m c → length d ≡ width m → Ready m (coding m role c d)
 unfolding coding

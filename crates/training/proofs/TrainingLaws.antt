@@ -11,7 +11,7 @@ use lib.ListN.{length, getD, replicate, length-replicate}
 use Rattle.line.specs.Table.{every, below}
 use Rattle.line.specs.Mode.{byMode, isMode, isState, states, width, capacity}
 use Rattle.line.proofs.ByMode.{mode-short, mode-long}
-use Rattle.coding.proofs.ModeLaws.{mode-cases}
+use Rattle.line.proofs.StateLaws.{mode-cases}
 use Rattle.line.proofs.TableLaws.{every-at, below-at}
 use Rattle.scrambler.specs.declared.Register.{Register}
 use Rattle.scrambler.specs.declared.Scrambled.{Scrambled}

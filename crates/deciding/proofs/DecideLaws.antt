@@ -1,22 +1,23 @@
--- Deciding: each point off the origin lies in exactly one turn of the first region, the answer is a state of the mode, and a turn of
--- the point by 90° turns the answer. Assumes nothing.
+-- Deciding: each point off the origin lies in exactly one turn of the first region, the answer is a state of the mode, that of a sent
+-- point its state, and a turn of the point by 90° turns the answer. Assumes nothing.
 use mathlib.Core.Path.{_≡_, refl, sym, ap, ap₂, _∙_, subst}
 use mathlib.Core.Bool.{Bool, true, false, _&&_, cond}
-use Prim.Native.Nat.{ℕ, zero, suc, _+_, _*_, _-_, _/_, _%_, _<_, _≤_}
+use Prim.Native.Nat.{ℕ, zero, suc, _+_, _*_, _-_, _%_, _<_, _≤_}
 use native.Mathlib.Omega.{arith}
 use native.Mathlib.Decide.{decLe}
-use lib.Dec.{T, eqb, leb, ltb, eqb→eq}
+use lib.Dec.{T, eqb, leb, eqb→eq}
 use lib.IntN.{ℤ, pos, negsuc, natAbs, _+ℤ_, _*ℤ_}
 use lib.Signed.{ltZ}
 use Rattle.line.specs.declared.Point.{Point}
 use Rattle.deciding.specs.declared.Decision.{Decision}
 use Rattle.deciding.specs.declared.Decision.the-variants.{State, Origin, NoSector}
-use Rattle.line.specs.Mode.{isMode, states, isState, step, turn, turns, quarterSteps, wholeSteps}
-use Rattle.line.specs.Point.{at, isOrigin, turned, turnedBy}
-use Rattle.deciding.specs.Decide.{square, sector, outer, first, turnedAnswer, quarters, decideBy, decide}
+use Rattle.line.specs.Table.{every}
+use Rattle.line.specs.Mode.{isMode, states, isState, quadrant, nextQuadrant, step, turn, turns, quarterSteps}
+use Rattle.line.specs.Point.{at, isOrigin, turned, turnedBy, sent27, levels32, sent32, sentPoint}
+use Rattle.deciding.specs.Decide.{square, inFirst, sector, outer, first, turnedAnswer, quarters, decideBy, decide}
 use Rattle.line.proofs.TableLaws.{below-at}
-use Rattle.coding.proofs.ModeLaws.{mode-cases, of-state}
-use Rattle.deciding.proofs.RegionLaws.{Turn, before, turn-four, origin-turned, turn-before, turn-by, turn-add, turn-decide, off-turned, base, turn-1, turn-1-past, turn-2, turn-3, turn-3-past, turn-4, turn-4-axis}
+use Rattle.line.proofs.StateLaws.{mode-cases, state-at, of-state, turns-state, turns-add, four-quarters}
+use Rattle.deciding.proofs.RegionLaws.{Turn, before, turn-four, origin-turned, turn-before, turn-by, turn-decide, off-turned, base, turn-1, turn-1-past, turn-2, turn-3, turn-3-past, turn-4, turn-4-axis}
 
 -- THE REGIONS
 
@@ -80,10 +81,6 @@ Off m (State y) = T (isState m y)
 Off m Origin = ⊥
 Off m NoSector = Unit {0}
 
-pub turns-state : (m : ℕ) → T (isMode m) → (k x : ℕ) → T (isState m x) → T (isState m (turns m k x))
-turns-state m hm zero x h = h
-turns-state m hm (suc k) x h = of-state m (turns m k x) hm (turns-state m hm k x h) .turned
-
 either : (m : ℕ) (b : Bool) (c d : Decision) → Off m c → Off m d → Off m (cond b c d)
 either m true c d p q = p
 either m false c d p q = q
@@ -135,11 +132,28 @@ decided-state m z s hm e = go (isOrigin z) refl
     go true o = let p : Origin ≡ State s = sym (at-origin m z o) ∙ e in let w : _≡_ {A = ℕ} 0 1 = cc in absurd (omega arith)
     go false o = subst (Off m) e (decide-off m hm z o)
 
--- TURNS
+-- A SENT POINT
 
-turns-add : (m i j s : ℕ) → turns m i (turns m j s) ≡ turns m (i + j) s
-turns-add m zero j s = ap (λ (n : ℕ). turns m n s) (let e : j ≡ 0 + j = omega arith in e)
-turns-add m (suc i) j s = ap (turn m) (turns-add m i j s) ∙ ap (λ (n : ℕ). turns m n s) (let e : suc (i + j) ≡ suc i + j = omega arith in e)
+-- the answer is this state
+abbrev is : Decision → ℕ → Bool
+is (State s) x = eqb s x
+is Origin x = false
+is NoSector x = false
+
+is-state : (d : Decision) (x : ℕ) → T (is d x) → d ≡ State x
+is-state (State s) x t = ap State (eqb→eq s x t)
+is-state Origin x t = absurd t
+is-state NoSector x t = absurd t
+
+-- one computed test over modes and states
+sent-tests : (m : ℕ) → T (isMode m) → T (every (λ x. is (decide m (sentPoint m x)) x) (states m))
+unfolding states quadrant nextQuadrant step turn quarterSteps isOrigin sent27 levels32 sent32 sentPoint inFirst sector outer first turnedAnswer quarters decide
+sent-tests = mode-cases (λ m. T (every (λ x. is (decide m (sentPoint m x)) x) (states m))) tt tt tt tt
+
+pub decided-sent : (m x : ℕ) → T (isMode m) → T (isState m x) → decide m (sentPoint m x) ≡ State x
+decided-sent m x hm hx = is-state (decide m (sentPoint m x)) x (state-at m (λ z. is (decide m (sentPoint m z)) z) (sent-tests m hm) x hx)
+
+-- TURNS
 
 answers-add : (m i j : ℕ) (d : Decision) → turnedAnswer m i (turnedAnswer m j d) ≡ turnedAnswer m (i + j) d
 unfolding turnedAnswer
@@ -147,9 +161,6 @@ answers-add m i j (State s) =
     ap State (turns-add m (i * quarterSteps m) (j * quarterSteps m) s ∙ ap (λ (n : ℕ). turns m n s) (let e : i * quarterSteps m + j * quarterSteps m ≡ (i + j) * quarterSteps m = omega arith in e))
 answers-add m i j Origin = refl
 answers-add m i j NoSector = refl
-
-four-quarters : (m : ℕ) → T (isMode m) → 4 * quarterSteps m ≡ wholeSteps m
-four-quarters = mode-cases (λ m. 4 * quarterSteps m ≡ wholeSteps m) (unfold step quarterSteps wholeSteps in refl) (unfold step quarterSteps wholeSteps in refl) (unfold step quarterSteps wholeSteps in refl) (unfold step quarterSteps wholeSteps in refl)
 
 answers-whole : (m : ℕ) (d : Decision) → T (isMode m) → Off m d → turnedAnswer m 4 d ≡ turnedAnswer m 0 d
 unfolding turnedAnswer
