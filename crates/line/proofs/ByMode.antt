@@ -2,10 +2,11 @@
 use Prim.Native.Nat.{ℕ, zero, suc, _-_, _<_, _≤_}
 use mathlib.Core.Path.{_≡_, refl, sym, ap, _∙_, subst}
 use mathlib.Core.List.{[], _∷_}
+use native.Mathlib.Nat.{le-refl}
 use native.Mathlib.Omega.{arith}
 use native.Mathlib.Decide.{decLe}
 use lib.ListN.{getD}
-use Rattle.line.specs.Mode.{byMode, width, capacity}
+use Rattle.line.specs.Mode.{byMode, width, farTap, capacity}
 
 module _ {A : Type 0} (a b c d : A) where
   cell : (m i : ℕ) (v : A) → m - 1 ≡ i → getD (a ∷ b ∷ c ∷ d ∷ []) i d ≡ v → byMode m a b c d ≡ v
@@ -52,11 +53,15 @@ by-all P a b c d pa pb pc pd (suc (suc (suc zero))) = pc
 by-all P a b c d pa pb pc pd (suc (suc (suc (suc n)))) =
     subst P (sym (mode-4 a b c d (suc (suc (suc (suc n)))) (omega arith) (λ e. omega arith) (λ e. omega arith))) pd
 
--- 2 to 4 bits in a point, and a scrambler longer than that
+-- 2 to 4 bits in a point, a scrambler longer than that, and a register that keeps what it xors
 pub width-range : (m : ℕ) → (2 ≤ width m) × (width m ≤ 4)
 unfolding width
 width-range m = by-all (λ (w : ℕ). (2 ≤ w) × (w ≤ 4)) 2 3 2 4 (omega arith) (omega arith) (omega arith) (omega arith) m
 
-pub length-range : (m : ℕ) → (7 ≤ capacity m) × (capacity m ≤ 23)
+pub capacity-range : (m : ℕ) → (7 ≤ capacity m) × (capacity m ≤ 23)
+unfolding capacity farTap
+capacity-range m = by-all (λ (w : ℕ). (7 ≤ w) × (w ≤ 23)) 7 7 23 23 (omega arith) (omega arith) (omega arith) (omega arith) m
+
+pub far-kept : (m : ℕ) → farTap m ≤ capacity m
 unfolding capacity
-length-range m = by-all (λ (w : ℕ). (7 ≤ w) × (w ≤ 23)) 7 7 23 23 (omega arith) (omega arith) (omega arith) (omega arith) m
+far-kept m = le-refl (farTap m)

@@ -14,16 +14,17 @@ byMode m a b c d = getD (a ∷ b ∷ c ∷ d ∷ []) (m - 1) d
 unfoldable pub isMode : ℕ → Bool
 isMode m = leb 1 m && leb m 4
 
-abbrev pub modes : List ℕ
-modes = 1 ∷ 2 ∷ 3 ∷ 4 ∷ []
-
 -- w: the line bits in a point
 unfoldable pub width : ℕ → ℕ
 width m = byMode m 2 3 2 4
 
--- R: the scrambler's length
+-- R: the scrambler's length: line bits a and R back are xored
+unfoldable pub farTap : ℕ → ℕ
+farTap m = byMode m 7 7 23 23
+
+-- the line bits that a register keeps: R
 unfoldable pub capacity : ℕ → ℕ
-capacity m = byMode m 7 7 23 23
+capacity m = farTap m
 
 -- step: the smallest turn that carries the states onto themselves, in degrees
 unfoldable pub step : ℕ → ℕ

@@ -64,7 +64,7 @@ pub fn width_of(mode: u8) -> u8
     }
 }
 
-// The scrambler's length.
+// The line bits that a register keeps.
 pub fn capacity_of(mode: u8) -> u8
     ensures { λ r. ⌜ r ≡ capacity mode ⌝ }
 {

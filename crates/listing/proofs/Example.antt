@@ -4,7 +4,7 @@ use mathlib.Core.List.{List, [], _∷_, _++_}
 use Prim.Native.Nat.{ℕ}
 use lib.ListN.{replicate}
 use Rattle.line.specs.Table.{entry, rowFrom}
-use Rattle.line.specs.Mode.{isMode, isRole, isState, states, width, capacity, step, quadrant, turn, quarterSteps, face}
+use Rattle.line.specs.Mode.{isMode, isRole, isState, states, width, farTap, capacity, step, quadrant, turn, quarterSteps, face}
 use Rattle.line.specs.Point.{inRange, isOrigin}
 use Rattle.deciding.specs.Decide.{inFirst, sector, outer, first, turnedAnswer, quarters, decide}
 use Rattle.coding.specs.Code.{changes4, changes8, changes16, eighths, turnRow, group}
@@ -37,5 +37,5 @@ listed =
     ++ (53 ∷ 32 ∷ 114 ∷ 101 ∷ 102 ∷ 10 ∷ [])
 
 pub example : text store ≡ listed
-unfolding entry rowFrom isMode isRole isState states width capacity step quadrant turn quarterSteps face inRange isOrigin inFirst sector outer first turnedAnswer quarters decide changes4 changes8 changes16 eighths turnRow group signed back nearTap push registerOk mix freshReceiver isFresh fieldsOk modeRefusal stateRefusal hasRoom eventRefusal eventRefused stateAnswer pointAnswer eventAnswer answer forgotten stateLine stateNext pointNext eventNext next recordOk spanOf eventsOf nextIn chain events total sizeOk hasMark headOk chainOk recordsOk totalOk refusal decimal kindText lineText firstLine chainText refusedLine text
+unfolding entry rowFrom isMode isRole isState states width farTap capacity step quadrant turn quarterSteps face inRange isOrigin inFirst sector outer first turnedAnswer quarters decide changes4 changes8 changes16 eighths turnRow group signed back nearTap push registerOk mix freshReceiver isFresh fieldsOk modeRefusal stateRefusal hasRoom eventRefusal eventRefused stateAnswer pointAnswer eventAnswer answer forgotten stateLine stateNext pointNext eventNext next recordOk spanOf eventsOf nextIn chain events total sizeOk hasMark headOk chainOk recordsOk totalOk refusal decimal kindText lineText firstLine chainText refusedLine text
 example = refl

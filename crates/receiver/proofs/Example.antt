@@ -3,7 +3,7 @@ use mathlib.Core.Path.{_≡_, refl}
 use mathlib.Core.List.{List, [], _∷_, map}
 use lib.IntN.{pos, negsuc}
 use Rattle.line.specs.Table.{entry, rowFrom}
-use Rattle.line.specs.Mode.{isMode, isRole, isState, states, width, capacity, step, quadrant, turn, quarterSteps, face}
+use Rattle.line.specs.Mode.{isMode, isRole, isState, states, width, farTap, capacity, step, quadrant, turn, quarterSteps, face}
 use Rattle.line.specs.Point.{at, inRange, isOrigin}
 use Rattle.deciding.specs.Decide.{inFirst, sector, outer, first, turnedAnswer, quarters, decide}
 use Rattle.coding.specs.Code.{changes4, changes8, changes16, eighths, turnRow, group}
@@ -23,5 +23,5 @@ pub record Example : Type 0 where
   pub place : after (freshReceiver 1 0) events .place .0 ≡ 6
 
 pub example : Example
-unfolding entry rowFrom isMode isRole isState states width capacity step quadrant turn quarterSteps face inRange isOrigin inFirst sector outer first turnedAnswer quarters decide changes4 changes8 changes16 eighths turnRow group back nearTap push registerOk mix freshReceiver isFresh fieldsOk modeRefusal stateRefusal hasRoom eventRefusal refusal stateAnswer pointAnswer eventAnswer answer forgotten stateLine stateNext pointNext eventNext next
+unfolding entry rowFrom isMode isRole isState states width farTap capacity step quadrant turn quarterSteps face inRange isOrigin inFirst sector outer first turnedAnswer quarters decide changes4 changes8 changes16 eighths turnRow group back nearTap push registerOk mix freshReceiver isFresh fieldsOk modeRefusal stateRefusal hasRoom eventRefusal refusal stateAnswer pointAnswer eventAnswer answer forgotten stateLine stateNext pointNext eventNext next
 example = record { answers = refl; place = refl }

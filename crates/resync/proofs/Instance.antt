@@ -5,7 +5,7 @@ use mathlib.Core.List.{List, [], _∷_, append-nil}
 use lib.IntN.{pos}
 use lib.ListN.{replicate}
 use Rattle.line.specs.Table.{entry, rowFrom}
-use Rattle.line.specs.Mode.{isMode, isRole, width, capacity, step, states, isState, quadrant, turn, quarterSteps, face}
+use Rattle.line.specs.Mode.{isMode, isRole, width, farTap, capacity, step, states, isState, quadrant, turn, quarterSteps, face}
 use Rattle.line.specs.Point.{inRange, isOrigin, sent27, sentPoint}
 use Rattle.deciding.specs.Decide.{inFirst, first, turnedAnswer, quarters, decide}
 use Rattle.coding.specs.Code.{changes4, coded, eighths, group}
@@ -30,7 +30,7 @@ unfolding sent
 consecutive = record { sender = sender; mode-is = refl; role-is = refl; calls = call ∷ []; earlier = []; later = []; are = sym (append-nil sent) }
 
 read-back : ReadBack sent (received sent)
-unfolding sent entry rowFrom isMode isRole width capacity states isState quadrant face inRange isOrigin sent27 sentPoint changes4 coded eighths isBit back nearTap push registerOk mix coding dataRefusal sendRefusal grouped afterGroup sendAnswer sendNumbers sendFieldsOk sendStateRefusal sendHasRoom pattern signed recordOk spanOf eventsOf nextIndex chain events total sizeOk hasMark headOk chainOk recordsOk totalOk storeRefusal readNumber readCount readResult made recordHasRoom pointAppended pointNumber pointResult eventIn
+unfolding sent entry rowFrom isMode isRole width farTap capacity states isState quadrant face inRange isOrigin sent27 sentPoint changes4 coded eighths isBit back nearTap push registerOk mix coding dataRefusal sendRefusal grouped afterGroup sendAnswer sendNumbers sendFieldsOk sendStateRefusal sendHasRoom pattern signed recordOk spanOf eventsOf nextIndex chain events total sizeOk hasMark headOk chainOk recordsOk totalOk storeRefusal readNumber readCount readResult made recordHasRoom pointAppended pointNumber pointResult eventIn
 read-back =
     record {
       store = made 96 1 0;
@@ -46,7 +46,7 @@ read-back =
     }
 
 pub premises : Premises
-unfolding sent listA listB entry rowFrom isMode isRole width capacity step states isState quadrant turn quarterSteps face inRange isOrigin sent27 sentPoint inFirst first turnedAnswer quarters decide changes4 coded eighths group isBit back nearTap push registerOk mix freshReceiver isFresh fieldsOk modeRefusal stateRefusal hasRoom eventRefusal refusal stateAnswer pointAnswer eventAnswer answer forgotten stateLine stateNext pointNext eventNext next coding dataRefusal sendRefusal grouped afterGroup sendAnswer sendNumbers sendFieldsOk sendStateRefusal sendHasRoom
+unfolding sent listA listB entry rowFrom isMode isRole width farTap capacity step states isState quadrant turn quarterSteps face inRange isOrigin sent27 sentPoint inFirst first turnedAnswer quarters decide changes4 coded eighths group isBit back nearTap push registerOk mix freshReceiver isFresh fieldsOk modeRefusal stateRefusal hasRoom eventRefusal refusal stateAnswer pointAnswer eventAnswer answer forgotten stateLine stateNext pointNext eventNext next coding dataRefusal sendRefusal grouped afterGroup sendAnswer sendNumbers sendFieldsOk sendStateRefusal sendHasRoom
 premises =
     record {
       points-A = (tt, (tt, (tt, (tt, (tt, (tt, (tt, (tt, tt))))))));

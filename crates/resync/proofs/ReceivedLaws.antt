@@ -12,7 +12,7 @@ use lib.Seq.{drop-nil}
 use Rattle.deciding.specs.declared.Decision.{Decision}
 use Rattle.deciding.specs.declared.Decision.the-variants.{State, Origin, NoSector}
 use Rattle.line.specs.Table.{every}
-use Rattle.line.specs.Mode.{isMode, isState, width, capacity, face}
+use Rattle.line.specs.Mode.{isMode, isState, width, farTap, capacity, face}
 use Rattle.deciding.specs.Decide.{decide}
 use Rattle.coding.specs.Code.{group}
 use Rattle.line.specs.Refusal.{accepted}
@@ -86,8 +86,8 @@ data-sized w (x ∷ xs) a b = (a .0 ∙ b .0, data-sized w xs (a .1) (b .1))
 
 pub enough : (m : ℕ) → T (isMode m) → (2 ≤ assuredPoint m) × (capacity m ≤ (assuredPoint m - 2) * width m)
 enough =
-    mode-cases (λ m. (2 ≤ assuredPoint m) × (capacity m ≤ (assuredPoint m - 2) * width m)) (unfold assuredPoint capacity width in (omega arith))
-    (unfold assuredPoint capacity width in (omega arith)) (unfold assuredPoint capacity width in (omega arith)) (unfold assuredPoint capacity width in (omega arith))
+    mode-cases (λ m. (2 ≤ assuredPoint m) × (capacity m ≤ (assuredPoint m - 2) * width m)) (unfold assuredPoint capacity farTap width in (omega arith))
+    (unfold assuredPoint capacity farTap width in (omega arith)) (unfold assuredPoint capacity farTap width in (omega arith)) (unfold assuredPoint capacity farTap width in (omega arith))
 
 -- a list of accepted points with what it gives
 pub record Received (m role : ℕ) (A : List Heard) : Type 0 where

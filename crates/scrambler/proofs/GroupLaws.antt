@@ -10,7 +10,7 @@ use lib.ListN.{length}
 use lib.Bits.{bitXor}
 use lib.Pow.{pow-pos, pow-add}
 use Rattle.line.specs.Table.{every}
-use Rattle.line.specs.Mode.{width, capacity}
+use Rattle.line.specs.Mode.{width, farTap, capacity}
 use Rattle.line.proofs.TableLaws.{and-left, and-right, and-intro}
 use Rattle.line.proofs.ByMode.{by-all, width-range}
 use Rattle.scrambler.specs.declared.Register.{Register}
@@ -137,10 +137,10 @@ read-marked (suc u) (b ∷ bs) t =
 
 -- WHAT THE FUNCTIONS COMPUTE
 
-pub mixed-law : (m role n x w a full r : ℕ) → w ≡ width m → a ≡ nearTap m role → full ≡ capacity m
-    → r ≡ bitXor (bitXor x (n / 2 ^ (a - w))) (n / 2 ^ (full - w)) % 2 ^ width m → r ≡ mixedAtOnce m role n x
+pub mixed-law : (m role n x w a far r : ℕ) → w ≡ width m → a ≡ nearTap m role → far ≡ farTap m
+    → r ≡ bitXor (bitXor x (n / 2 ^ (a - w))) (n / 2 ^ (far - w)) % 2 ^ width m → r ≡ mixedAtOnce m role n x
 unfolding mixedAtOnce
-mixed-law m role n x w a full r ew ea ef e =
+mixed-law m role n x w a far r ew ea ef e =
     e ∙ ap₂ (λ (i j : ℕ). bitXor (bitXor x (n / 2 ^ i)) (n / 2 ^ j) % 2 ^ width m)
     (ap₂ (λ (i j : ℕ). i - j) ea ew) (ap₂ (λ (i j : ℕ). i - j) ef ew)
 
@@ -210,7 +210,7 @@ module _ (m role : ℕ) (h : Register) (g : ℕ) where
 
 pub mixed-small : (m role n x : ℕ) → mixedAtOnce m role n x < 2 ^ width m
 unfolding mixedAtOnce
-mixed-small m role n x = mod-lt (bitXor (bitXor x (n / 2 ^ (nearTap m role - width m))) (n / 2 ^ (capacity m - width m))) (pow-pos (width m))
+mixed-small m role n x = mod-lt (bitXor (bitXor x (n / 2 ^ (nearTap m role - width m))) (n / 2 ^ (farTap m - width m))) (pow-pos (width m))
 
 -- a group's numbers are small, so that one byte holds both
 pub descrambled-small : (m role : ℕ) (h : Register) (g : ℕ) → (descrambled m role h g .plain < 16) × (descrambled m role h g .unsettled .0 ≤ 4)

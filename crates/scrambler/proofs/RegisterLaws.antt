@@ -13,7 +13,7 @@ use lib.Pow.{pow-pos, pow-add, mod-mod-pow}
 use Rattle.line.specs.Table.{every}
 use Rattle.line.specs.Mode.{capacity}
 use Rattle.line.proofs.TableLaws.{and-left, and-right, and-intro}
-use Rattle.line.proofs.ByMode.{length-range}
+use Rattle.line.proofs.ByMode.{capacity-range}
 use Rattle.scrambler.specs.declared.Register.{Register}
 use Rattle.scrambler.specs.Bits.{isBit, bits}
 use Rattle.scrambler.specs.Register.{register, fresh, back, push, pushes, registerOk}
@@ -41,7 +41,7 @@ push-group m h (suc n) g =
     omega (arith, mod-suc-pow (suc n) g, ap (λ (z : ℕ). x * z) (two-pow-succ (suc n))) in
     push-group m (push m h b) n g
     ∙ same-register _ _ (mod-scale (x * 2 + b) k (g % k) (2 ^ capacity m) ∙ ap (λ (z : ℕ). z % 2 ^ capacity m) e)
-    (let z = length-range m .0 in let q : min (min (h .held .0 + 1) (capacity m) + suc n) (capacity m) ≡ min (h .held .0 + suc (suc n)) (capacity m) = omega arith in q)
+    (let z = capacity-range m .0 in let q : min (min (h .held .0 + 1) (capacity m) + suc n) (capacity m) ≡ min (h .held .0 + suc (suc n)) (capacity m) = omega arith in q)
 
 -- WHAT IT HOLDS
 
@@ -67,7 +67,7 @@ back-push m h b k hb hk =
 
 back-new : (m : ℕ) (h : Register) (b : ℕ) → b < 2 → back 1 (push m h b) ≡ b
 unfolding back push
-back-new m h b hb = bit-mod 0 (capacity m) (h .bits * 2 + b) (let z = length-range m .0 in omega arith) ∙ bit-new (h .bits) b hb
+back-new m h b hb = bit-mod 0 (capacity m) (h .bits * 2 + b) (let z = capacity-range m .0 in omega arith) ∙ bit-new (h .bits) b hb
 
 holds-push : (m : ℕ) (h : Register) (b : ℕ) (newest : List ℕ) → b < 2 → Holds m h newest → Holds m (push m h b) (b ∷ newest)
 holds-push m h b newest hb p =
@@ -95,7 +95,7 @@ holds-pushes m h (b ∷ bs) newest t p =
 pub register-holds : (m : ℕ) (bs : List ℕ) → T (every isBit bs) → Holds m (pushes m fresh bs) (newestFirst [] bs)
 register-holds m bs t =
     holds-pushes m fresh bs [] t
-    (record { at = λ k l r. unfold back in (omega-zero (2 ^ (k - 1)) (pow-pos (k - 1))); count = let z = length-range m .0 in omega arith })
+    (record { at = λ k l r. unfold back in (omega-zero (2 ^ (k - 1)) (pow-pos (k - 1))); count = let z = capacity-range m .0 in omega arith })
   where
     omega-zero : (n : ℕ) → 0 < n → 0 / n % 2 ≡ 0
     omega-zero n h = ap (λ (x : ℕ). x % 2) (div-eq-of-lt h)
@@ -247,7 +247,7 @@ agree-pushes m k h h′ (b ∷ bs) r a =
 
 -- after R equal line bits two registers are equal, whatever they held
 pub same-after : (m : ℕ) (h h′ : Register) (bs : List ℕ) → capacity m ≤ length bs → pushes m h bs ≡ pushes m h′ bs
-same-after m h h′ [] r = absurd (let z = length-range m .0 in omega arith)
+same-after m h h′ [] r = absurd (let z = capacity-range m .0 in omega arith)
 same-after m h h′ (b ∷ bs) r =
     agree-pushes m 1 (push m h b) (push m h′ b) bs (omega arith) (agree-push m 0 h h′ b (omega arith) (omega arith) (omega arith))
 

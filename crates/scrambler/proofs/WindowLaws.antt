@@ -10,8 +10,8 @@ use lib.Bits.{bitXor, xor-shr, xor-mod}
 use lib.Dec.{T, leb}
 use lib.ListN.{length, getD}
 use Rattle.line.specs.Table.{every}
-use Rattle.line.specs.Mode.{width, capacity}
-use Rattle.line.proofs.ByMode.{mode-short, mode-long, by-all, width-range}
+use Rattle.line.specs.Mode.{width, farTap, capacity}
+use Rattle.line.proofs.ByMode.{mode-short, mode-long, by-all, width-range, far-kept}
 use Rattle.scrambler.specs.declared.Register.{Register}
 use Rattle.scrambler.specs.Bits.{bits, value}
 use Rattle.scrambler.specs.Register.{register, back, nearTap, push, pushes}
@@ -20,34 +20,35 @@ use Rattle.scrambler.specs.Group.{plainOf, unsettledIn, marked}
 use Rattle.scrambler.specs.Windows.{mixedAtOnce}
 use Rattle.scrambler.proofs.BitLaws.{bit, bit-small, bit-mod, bit-double, bit-shift, mod-suc-pow, length-bits}
 
-abbrev farTap : ℕ → ℕ
-farTap role = getD (18 ∷ 5 ∷ []) role 5
+-- a in V.32
+abbrev v32Tap : ℕ → ℕ
+v32Tap role = getD (18 ∷ 5 ∷ []) role 5
 
-far-tap : (role : ℕ) → (5 ≤ farTap role) × (farTap role ≤ 18)
-far-tap zero = omega arith
-far-tap (suc zero) = omega arith
-far-tap (suc (suc role)) = omega arith
+v32-tap : (role : ℕ) → (5 ≤ v32Tap role) × (v32Tap role ≤ 18)
+v32-tap zero = omega arith
+v32-tap (suc zero) = omega arith
+v32-tap (suc (suc role)) = omega arith
 
 tap-low : (m role : ℕ) → 5 ≤ nearTap m role
 unfolding nearTap
-tap-low m role = by-all (λ (n : ℕ). 5 ≤ n) 6 6 (farTap role) (farTap role) (omega arith) (omega arith) (far-tap role .0) (far-tap role .0) m
+tap-low m role = by-all (λ (n : ℕ). 5 ≤ n) 6 6 (v32Tap role) (v32Tap role) (omega arith) (omega arith) (v32-tap role .0) (v32-tap role .0) m
 
-tap-high : (m role : ℕ) → nearTap m role ≤ capacity m
-unfolding nearTap capacity
+tap-high : (m role : ℕ) → nearTap m role ≤ farTap m
+unfolding nearTap farTap
 tap-high m role = go (decLe m 2)
   where
-    go : Dec (m ≤ 2) → nearTap m role ≤ capacity m
-    go (yes h) = let a : nearTap m role ≡ 6 = mode-short 6 (farTap role) m h in let r : capacity m ≡ 7 = mode-short 7 23 m h in omega arith
+    go : Dec (m ≤ 2) → nearTap m role ≤ farTap m
+    go (yes h) = let a : nearTap m role ≡ 6 = mode-short 6 (v32Tap role) m h in let r : farTap m ≡ 7 = mode-short 7 23 m h in omega arith
     go (no h) =
         let k : 2 < m = omega (arith, h) in
-        let a : nearTap m role ≡ farTap role = mode-long 6 (farTap role) m k in
-        let r : capacity m ≡ 23 = mode-long 7 23 m k in
-        let z = far-tap role .1 in omega arith
+        let a : nearTap m role ≡ v32Tap role = mode-long 6 (v32Tap role) m k in
+        let r : farTap m ≡ 23 = mode-long 7 23 m k in
+        let z = v32-tap role .1 in omega arith
 
 -- the taps lie behind a group, and within the register
-pub tap-range : (m role : ℕ) → (width m ≤ nearTap m role) × (nearTap m role ≤ capacity m)
+pub tap-range : (m role : ℕ) → (width m ≤ nearTap m role) × (nearTap m role ≤ farTap m) × (farTap m ≤ capacity m)
 tap-range m role =
-    (let w = width-range m .1 in let a = tap-low m role in omega arith, tap-high m role)
+    (let w = width-range m .1 in let a = tap-low m role in omega arith, tap-high m role, far-kept m)
 
 -- three numbers mixed, the lowest n bits of each
 mixRow : ℕ → ℕ → ℕ → ℕ → List ℕ
@@ -119,19 +120,19 @@ module _ (m role : ℕ) where
   window h t n = h .bits / 2 ^ (t - n)
 
   abbrev rowOf : Register → ℕ → ℕ → List ℕ
-  rowOf h n g = mixRow n g (window h (nearTap m role) n) (window h (capacity m) n)
+  rowOf h n g = mixRow n g (window h (nearTap m role) n) (window h (farTap m) n)
 
-  row-head : (h : Register) (k g : ℕ) → suc k ≤ nearTap m role → mix m role h (bit k g) ≡ (bit k g + bit k (window h (nearTap m role) (suc k)) + bit k (window h (capacity m) (suc k))) % 2
+  row-head : (h : Register) (k g : ℕ) → suc k ≤ nearTap m role → mix m role h (bit k g) ≡ (bit k g + bit k (window h (nearTap m role) (suc k)) + bit k (window h (farTap m) (suc k))) % 2
   unfolding mix
   row-head h k g ht =
       ap₂ (λ (x y : ℕ). (bit k g + x + y) % 2) (window-top h (nearTap m role) k ht)
-      (window-top h (capacity m) k (let z = tap-range m role .1 in omega arith))
+      (window-top h (farTap m) k (let z = tap-range m role .1 in omega arith))
 
   row-tail : (h : Register) (b k g : ℕ) → b < 2 → suc k ≤ nearTap m role
-      → rowOf (push m h b) k g ≡ mixRow k g (window h (nearTap m role) (suc k)) (window h (capacity m) (suc k))
+      → rowOf (push m h b) k g ≡ mixRow k g (window h (nearTap m role) (suc k)) (window h (farTap m) (suc k))
   row-tail h b k g hb ht =
-      let z = tap-range m role .1 in
-      row-same k g _ _ _ _ (λ i hi. window-push m h b (nearTap m role) k i hb ht z hi) (λ i hi. window-push m h b (capacity m) k i hb (omega arith) (omega arith) hi)
+      let z = tap-range m role in
+      row-same k g _ _ _ _ (λ i hi. window-push m h b (nearTap m role) k i hb ht (omega arith) hi) (λ i hi. window-push m h b (farTap m) k i hb (omega arith) (omega arith) hi)
 
   scramble-row : (h : Register) (n g : ℕ) → n ≤ nearTap m role → scramble m role h (bits n g) ≡ rowOf h n g
   unfolding mixRow
@@ -148,7 +149,7 @@ module _ (m role : ℕ) where
 
   at-once : (h : Register) (g : ℕ) → value (rowOf h (width m) g) ≡ mixedAtOnce m role (h .bits) g
   unfolding mixedAtOnce
-  at-once h g = row-value (width m) g (window h (nearTap m role) (width m)) (window h (capacity m) (width m))
+  at-once h g = row-value (width m) g (window h (nearTap m role) (width m)) (window h (farTap m) (width m))
 
   pub scramble-at-once : (h : Register) (g : ℕ) → value (scramble m role h (bits (width m) g)) ≡ mixedAtOnce m role (h .bits) g
   scramble-at-once h g = ap value (scramble-row h (width m) g (tap-range m role .0)) ∙ at-once h g
@@ -159,17 +160,26 @@ module _ (m role : ℕ) where
 -- the nearer tap, by the tests that the code makes
 pub tap-6 : (m role : ℕ) → m ≤ 2 → 6 ≡ nearTap m role
 unfolding nearTap
-tap-6 m role h = sym (mode-short 6 (farTap role) m h)
+tap-6 m role h = sym (mode-short 6 (v32Tap role) m h)
 
 pub tap-18 : (m role : ℕ) → 2 < m → role ≡ 0 → 18 ≡ nearTap m role
 unfolding nearTap
-tap-18 m role h e = sym (mode-long 6 (farTap role) m h ∙ ap farTap e)
+tap-18 m role h e = sym (mode-long 6 (v32Tap role) m h ∙ ap v32Tap e)
 
-far-other : (role : ℕ) → (role ≡ 0 → ⊥) → farTap role ≡ 5
-far-other zero f = absurd (f refl)
-far-other (suc zero) f = refl
-far-other (suc (suc role)) f = refl
+v32-other : (role : ℕ) → (role ≡ 0 → ⊥) → v32Tap role ≡ 5
+v32-other zero f = absurd (f refl)
+v32-other (suc zero) f = refl
+v32-other (suc (suc role)) f = refl
 
 pub tap-5 : (m role : ℕ) → 2 < m → (role ≡ 0 → ⊥) → 5 ≡ nearTap m role
 unfolding nearTap
-tap-5 m role h f = sym (mode-long 6 (farTap role) m h ∙ far-other role f)
+tap-5 m role h f = sym (mode-long 6 (v32Tap role) m h ∙ v32-other role f)
+
+-- the farther one
+pub tap-7 : (m : ℕ) → m ≤ 2 → 7 ≡ farTap m
+unfolding farTap
+tap-7 m h = sym (mode-short 7 23 m h)
+
+pub tap-23 : (m : ℕ) → 2 < m → 23 ≡ farTap m
+unfolding farTap
+tap-23 m h = sym (mode-long 7 23 m h)

@@ -3,13 +3,13 @@ use Prim.Native.Nat.{ℕ, zero, suc, _+_, _%_}
 use mathlib.Core.Bool.{Bool, true, false}
 use mathlib.Core.List.{List, [], _∷_}
 use lib.Dec.{leb}
-use Rattle.line.specs.Mode.{capacity}
+use Rattle.line.specs.Mode.{farTap, capacity}
 use Rattle.scrambler.specs.declared.Register.{Register}
 use Rattle.scrambler.specs.Register.{back, nearTap, push}
 
 -- a bit xor the line bits a and R back: the sender's line bit from its data bit, and the receiver's data bit from the line bit
 unfoldable pub mix : ℕ → ℕ → Register → ℕ → ℕ
-mix m role h x = (x + back (nearTap m role) h + back (capacity m) h) % 2
+mix m role h x = (x + back (nearTap m role) h + back (farTap m) h) % 2
 
 -- the line bits of data bits
 abbrev pub scramble : ℕ → ℕ → Register → List ℕ → List ℕ

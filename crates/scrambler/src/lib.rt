@@ -1,7 +1,7 @@
 // The scrambler's register, and scrambling and descrambling the bits of a point: document 01.
 ghost use mathlib.Core.Path.{_≡_};
 ghost use Prim.Native.Nat.{ℕ, _-_, _^_, _%_, _≤_, _<_, min};
-ghost use Rattle.line.specs.Mode.{width, capacity};
+ghost use Rattle.line.specs.Mode.{width, farTap, capacity};
 ghost use Rattle.scrambler.specs.Bits.{bits, value};
 ghost use Rattle.scrambler.specs.Register.{register, fresh, nearTap, pushes, registerOk};
 ghost use Rattle.scrambler.specs.Group.{scrambled, descrambled};
@@ -66,6 +66,14 @@ fn near_tap(mode: u8, role: u8) -> u8
     }
 }
 
+// The farther tap.
+fn far_tap(mode: u8) -> u8
+    ensures { λ r. ⌜ r ≡ farTap mode ⌝ }
+    ensures { λ r. ⌜ (7 ≤ r) × (r ≤ 23) ⌝ }
+{
+    if mode <= 2 { 7 } else { 23 }
+}
+
 // The lowest w bits of a number.
 fn low_bits(mode: u8, x: u32) -> u8
     ensures { λ r. ⌜ r ≡ x % 2 ^ width mode ⌝ }
@@ -82,7 +90,7 @@ fn low_bits(mode: u8, x: u32) -> u8
     }
 }
 
-// The lowest R bits of a number.
+// The lowest bits of a number, as many as a register keeps.
 fn keep_bits(mode: u8, x: u64) -> u32
     ensures { λ r. ⌜ r ≡ x % 2 ^ capacity mode ⌝ }
 {
@@ -100,7 +108,7 @@ fn mixed(mode: u8, role: u8, n: u32, x: u8) -> u8
 {
     let w = line::width_of(mode);
     let near = (near_tap(mode, role) - w) as u32;
-    let far = (line::capacity_of(mode) - w) as u32;
+    let far = (far_tap(mode) - w) as u32;
     low_bits(mode, (x as u32) ^ (n >> near) ^ (n >> far))
 }
 

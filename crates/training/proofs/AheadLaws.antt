@@ -9,7 +9,7 @@ use native.Mathlib.Decide.{decLt, decLe}
 use borrow.Author.Tests.{lt-ltb, le-ltb}
 use lib.Dec.{T, ltb, eqb}
 use lib.ListN.{length, getD, replicate}
-use Rattle.line.specs.Mode.{byMode, width, capacity}
+use Rattle.line.specs.Mode.{byMode, width, farTap, capacity}
 use Rattle.line.proofs.ByMode.{mode-short, mode-long}
 use Rattle.scrambler.specs.declared.Register.{Register}
 use Rattle.scrambler.specs.Bits.{bits}
@@ -88,8 +88,12 @@ module _ (t : List ℕ) (rule : MiddleTable t) (m role n : ℕ) (hm : m ≤ 2) w
   unfolding nearTap
   tap = mode-short 6 (getD (18 ∷ 5 ∷ []) role 5) m hm
 
+  far : farTap m ≡ farTap 2
+  unfolding farTap
+  far = mode-short 7 23 m hm
+
   size : capacity m ≡ capacity 2
-  unfolding capacity
+  unfolding capacity farTap
   size = mode-short 7 23 m hm
 
   -- a middle interval of either mode, from the register of mode 2
@@ -97,9 +101,9 @@ module _ (t : List ℕ) (rule : MiddleTable t) (m role n : ℕ) (hm : m ≤ 2) w
   unfolding middle change
   middle-is k d e =
       let l : scramble m role (d .line) (spent m) ≡ scramble 2 0 (threes k) (spent 2) =
-      ap (λ (h : Register). scramble m role h (spent m)) e ∙ scramble-same m 2 role 0 tap size (threes k) (spent 2) in
+      ap (λ (h : Register). scramble m role h (spent m)) e ∙ scramble-same m 2 role 0 tap far size (threes k) (spent 2) in
       same-coder (ap (λ (x : List ℕ). (d .reference + 4 * getD x 0 0) % 8) l)
-      (ap₂ (pushes m) e l ∙ pushes-same m 2 role 0 tap size (threes k) (scramble 2 0 (threes k) (spent 2)))
+      (ap₂ (pushes m) e l ∙ pushes-same m 2 role 0 tap far size (threes k) (scramble 2 0 (threes k) (spent 2)))
 
   step27 : (i : ℕ) (c d : Coder) → Ahead n i c d
       → Sends n i (ahead27 t m role n i c) (train27 m role n i d)

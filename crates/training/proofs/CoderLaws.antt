@@ -6,7 +6,7 @@ use native.Mathlib.Nat.{le-of-eq, le-antisymm}
 use native.Mathlib.Omega.{arith}
 use lib.Dec.{T}
 use lib.ListN.{length, replicate}
-use Rattle.line.specs.Mode.{isMode, width, capacity, isState, face}
+use Rattle.line.specs.Mode.{isMode, width, farTap, capacity, isState, face}
 use Rattle.coding.specs.Code.{coded}
 use Rattle.line.proofs.ByMode.{by-all}
 use Rattle.coding.proofs.ModeLaws.{OfGroup, of-group}
@@ -38,10 +38,10 @@ unfolding width
 ones-bits m = by-all (λ (w : ℕ). bits w 15 ≡ replicate w 1) 2 3 2 4 refl refl refl refl m
 
 -- modes and roles with one scrambler
-module _ (m n role r : ℕ) (a : nearTap m role ≡ nearTap n r) (e : capacity m ≡ capacity n) where
+module _ (m n role r : ℕ) (a : nearTap m role ≡ nearTap n r) (b : farTap m ≡ farTap n) (e : capacity m ≡ capacity n) where
   mix-same : (h : Register) (x : ℕ) → mix m role h x ≡ mix n r h x
   unfolding mix
-  mix-same h x = rw (a, e)
+  mix-same h x = rw (a, b)
 
   push-same : (h : Register) (b : ℕ) → push m h b ≡ push n h b
   unfolding push

@@ -8,7 +8,7 @@ use native.Mathlib.Nat.{not-suc-le-zero, le-of-suc-le-suc, add-zero, zero-add}
 use native.Mathlib.Omega.{arith}
 use lib.Dec.{T, eqb, eqb→eq}
 use lib.ListN.{length, getD}
-use Rattle.line.specs.Mode.{capacity}
+use Rattle.line.specs.Mode.{farTap, capacity}
 use Rattle.line.proofs.TableLaws.{and-left, and-right}
 use Rattle.scrambler.specs.declared.Register.{Register}
 use Rattle.scrambler.specs.Register.{register, back, nearTap, push, pushes}
@@ -36,11 +36,11 @@ table-rule xs e t =
 
 -- the register that the middle changes leave, of either length
 end-58 : threes 58 ≡ register 0b0010001 7
-unfolding capacity back nearTap push mix
+unfolding capacity farTap back nearTap push mix
 end-58 = refl
 
 end-1074 : threes 1074 ≡ register 0b0010001 7
-unfolding capacity back nearTap push mix
+unfolding capacity farTap back nearTap push mix
 end-1074 = refl
 
 pub middle-end : (n : ℕ) → threes (changes n) ≡ register 0b0010001 7

@@ -9,7 +9,7 @@ use borrow.Author.Tests.{lt-ltb, le-ltb}
 use lib.Dec.{T, ltb, eqb}
 use lib.ListN.{length, getD, replicate, length-replicate}
 use Rattle.line.specs.Table.{every, below}
-use Rattle.line.specs.Mode.{byMode, isMode, isState, states, width, capacity}
+use Rattle.line.specs.Mode.{byMode, isMode, isState, states, width, farTap, capacity}
 use Rattle.line.proofs.ByMode.{mode-short, mode-long}
 use Rattle.line.proofs.StateLaws.{mode-cases}
 use Rattle.line.proofs.TableLaws.{every-at, below-at}
@@ -97,13 +97,14 @@ module _ (m role i : ℕ) (c : Coder) where
   -- modes 3 and 4 have one scrambler
   pub ones-32 : (s : Scrambled) → 2 < m → s ≡ scrambled 3 role (c .line) 3
       → (s .line ≡ value (scramble m role (c .line) (replicate 2 1))) × (s .next ≡ pushes m (c .line) (scramble m role (c .line) (replicate 2 1)))
-  unfolding scrambled width nearTap capacity
+  unfolding scrambled width nearTap capacity farTap
   ones-32 s h e =
       let a : nearTap m role ≡ nearTap 3 role = mode-long 6 (getD (18 ∷ 5 ∷ []) role 5) m h in
+      let f : farTap m ≡ farTap 3 = mode-long 7 23 m h in
       let r : capacity m ≡ capacity 3 = mode-long 7 23 m h in
-      let l = scramble-same m 3 role role a r (c .line) (replicate 2 1) in (
+      let l = scramble-same m 3 role role a f r (c .line) (replicate 2 1) in (
         ap (λ (x : Scrambled). x .line) e ∙ ap value (sym l),
-        ap (λ (x : Scrambled). x .next) e ∙ sym (pushes-same m 3 role role a r (c .line) (scramble m role (c .line) (replicate 2 1)) ∙ ap (pushes 3 (c .line)) l),
+        ap (λ (x : Scrambled). x .next) e ∙ sym (pushes-same m 3 role role a f r (c .line) (scramble m role (c .line) (replicate 2 1)) ∙ ap (pushes 3 (c .line)) l),
       )
 
   pub third-32 : (s : Scrambled) (r : ℕ) → 2 < m → 256 ≤ i → 272 ≤ i → s ≡ scrambled 3 role (c .line) 3 → r ≡ dibitState i (bits 2 (s .line))
@@ -198,7 +199,7 @@ module _ (m role i : ℕ) (c : Coder) (hm : T (isMode m)) (k : Ready m c) where
       go (no h) = subst (Ready m) (sym (mode-long _ _ m (omega (arith, h)))) (ready-32 (omega (arith, h)))
 
 ready-start : (m : ℕ) → T (isMode m) → Ready m (start m)
-unfolding start states isState capacity
+unfolding start states isState capacity farTap
 ready-start =
     mode-cases (λ (m : ℕ). Ready m (start m))
     (ready 1 _ tt refl (record { small = omega arith; most = omega arith })) (ready 2 _ tt refl (record { small = omega arith; most = omega arith }))

@@ -1,4 +1,4 @@
-use Rattle.line.specs.Mode.{capacity}
+use Rattle.line.specs.Mode.{farTap, capacity}
 use Rattle.line.proofs.Tests.{tests}
 use Rattle.line.proofs.capacity_of.Statement.{statement}
 use Rattle.line.proofs.capacity_of.Tie as tie
@@ -6,11 +6,11 @@ use Rattle.line.proofs.capacity_of.Reads as reads
 use Rattle.line.proofs.capacity_of.Lts as lts
 
 returns : tie.Need-returns
-unfolding capacity
+unfolding capacity farTap
 returns c = search tests
 
 returns-2 : tie.Need-returns-2
-unfolding capacity
+unfolding capacity farTap
 returns-2 c = search tests
 
 pub capacity-of-spec : {M : Type 1} → statement M

@@ -1,4 +1,4 @@
-use Rattle.line.specs.Mode.{capacity}
+use Rattle.line.specs.Mode.{farTap, capacity}
 use Rattle.line.proofs.Tests.{tests}
 use borrow.Author.Needs.{needs}
 use Rattle.scrambler.proofs.keep_bits.Statement.{statement}
@@ -13,11 +13,11 @@ cast-result-2 : tie.Need-cast-result-2
 cast-result-2 c = search needs
 
 returns : tie.Need-returns
-unfolding capacity
+unfolding capacity farTap
 returns c = search tests
 
 returns-2 : tie.Need-returns-2
-unfolding capacity
+unfolding capacity farTap
 returns-2 c = search tests
 
 pub keep-bits-spec : {M : Type 1} → statement M

@@ -1,5 +1,5 @@
 use mathlib.Core.Path.{refl}
-use Rattle.line.proofs.ByMode.{width-range, length-range}
+use Rattle.line.proofs.ByMode.{width-range}
 use native.Mathlib.Omega.{arith}
 use Rattle.scrambler.proofs.GroupLaws.{mixed-law}
 use borrow.Author.Needs.{needs}
@@ -7,7 +7,6 @@ use Rattle.scrambler.proofs.mixed.Statement.{statement}
 use Rattle.scrambler.proofs.mixed.Tie as tie
 use Rattle.scrambler.proofs.mixed.Reads as reads
 use Rattle.scrambler.proofs.mixed.Lts as lts
-use Rattle.line.proofs.capacity_of.Reads as capacity-of-reads
 use Rattle.line.proofs.width_of.Reads as width-of-reads
 use Rattle.scrambler.proofs.low_bits.Reads as low-bits-reads
 use Rattle.scrambler.proofs.near_tap.Reads as near-tap-reads
@@ -24,11 +23,11 @@ sub-near c = omega (arith, width-range (c .before .before .args .mode))
 cast-near : tie.Need-cast-near
 cast-near c = search needs
 
-capacity-of-requires : tie.Need-capacity-of-requires
-capacity-of-requires c κs = search needs
+far-tap-requires : tie.Need-far-tap-requires
+far-tap-requires c κs = search needs
 
 sub-far : tie.Need-sub-far
-sub-far c = omega (arith, width-range (c .before .before .before .args .mode), length-range (c .before .before .before .args .mode))
+sub-far c = omega (arith, width-range (c .before .before .before .args .mode))
 
 cast-far : tie.Need-cast-far
 cast-far c = search needs
@@ -37,13 +36,13 @@ shr-low-bits : tie.Need-shr-low-bits
 shr-low-bits c = search needs
 
 shr-low-bits-2 : tie.Need-shr-low-bits-2
-shr-low-bits-2 c = omega (arith, width-range (c .before .before .before .args .mode), length-range (c .before .before .before .args .mode))
+shr-low-bits-2 c = omega (arith, width-range (c .before .before .before .args .mode))
 
 low-bits-requires : tie.Need-low-bits-requires
 low-bits-requires c κs = search needs
 
 returns : tie.Need-returns
-returns c = (mixed-law (c .before .before .before .before .args .mode) (c .before .before .before .before .args .role) (c .before .before .before .before .args .n) (c .before .before .before .before .args .x) _ _ _ (c .low-bits .result) (c .before .before .before .width-of .ensures) (c .before .before .near-tap .ensures .0) (c .before .capacity-of .ensures) (c .low-bits .ensures .0), c .low-bits .ensures .1)
+returns c = (mixed-law (c .before .before .before .before .args .mode) (c .before .before .before .before .args .role) (c .before .before .before .before .args .n) (c .before .before .before .before .args .x) _ _ _ (c .low-bits .result) (c .before .before .before .width-of .ensures) (c .before .before .near-tap .ensures .0) (c .before .far-tap .ensures .0) (c .low-bits .ensures .0), c .low-bits .ensures .1)
 
 pub mixed-spec : {M : Type 1} → statement M
 mixed-spec =
@@ -53,7 +52,7 @@ mixed-spec =
     near-tap-requires
     sub-near
     cast-near
-    capacity-of-requires
+    far-tap-requires
     sub-far
     cast-far
     shr-low-bits

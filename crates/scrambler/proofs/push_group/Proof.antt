@@ -1,6 +1,6 @@
 use native.Mathlib.Nat.{mul-le-mul-left}
 use Rattle.scrambler.proofs.GroupLaws.{push-law}
-use Rattle.line.proofs.ByMode.{width-range, length-range}
+use Rattle.line.proofs.ByMode.{width-range, capacity-range}
 use native.Mathlib.Omega.{arith}
 use borrow.Author.Needs.{needs}
 use Rattle.scrambler.proofs.push_group.Statement.{statement}
@@ -13,57 +13,44 @@ use Rattle.scrambler.proofs.group_size.Reads as group-size-reads
 use Rattle.scrambler.proofs.keep_bits.Reads as keep-bits-reads
 use Rattle.scrambler.proofs.low_bits.Reads as low-bits-reads
 
--- src/lib.rt:108:13
 cast-n : tie.Need-cast-n
 cast-n c = search needs
 
--- src/lib.rt:110:9
 width-of-requires : tie.Need-width-of-requires
 width-of-requires c κs = search needs
 
--- src/lib.rt:111:9
 capacity-of-requires : tie.Need-capacity-of-requires
 capacity-of-requires c κs = search needs
 
--- src/lib.rt:112:15
 low-bits-requires : tie.Need-low-bits-requires
 low-bits-requires c κs = search needs
 
--- src/lib.rt:112:15
 cast-low : tie.Need-cast-low
 cast-low c = search needs
 
--- src/lib.rt:113:36
 group-size-requires : tie.Need-group-size-requires
 group-size-requires c κs = omega (arith, width-range (c .before .before .before .before .args .mode))
 
--- src/lib.rt:113:32
 mul-keep-bits : tie.Need-mul-keep-bits
 mul-keep-bits c = omega (arith, mul-le-mul-left (c .before .before .before .before .before .args .h .bits) (c .group-size .ensures .1))
 
--- src/lib.rt:113:32
 add-keep-bits : tie.Need-add-keep-bits
 add-keep-bits c = omega (arith, mul-le-mul-left (c .before .before .before .before .before .args .h .bits) (c .group-size .ensures .1))
 
--- src/lib.rt:113:9
 keep-bits-requires : tie.Need-keep-bits-requires
 keep-bits-requires c κs = search needs
 
--- src/lib.rt:114:8
 sub-if1 : tie.Need-sub-if1
-sub-if1 c = omega (arith, width-range (c .before .before .before .before .before .before .args .mode), length-range (c .before .before .before .before .before .before .args .mode))
+sub-if1 c = omega (arith, width-range (c .before .before .before .before .before .before .args .mode), capacity-range (c .before .before .before .before .before .before .args .mode))
 
--- src/lib.rt:117:47
 add-t18 : tie.Need-add-t18
 add-t18 c = search needs
 
--- src/lib.rt:105:1
 returns : tie.Need-returns
-returns c = push-law (c .before .before .before .before .before .before .before .args .mode) (c .before .before .before .before .before .before .before .args .h) (c .before .before .before .before .before .before .before .args .g) _ _ _ _ _ _ (c .before .before .before .before .before .width-of .ensures) (c .before .before .before .before .capacity-of .ensures) (c .before .before .before .low-bits .ensures .0) (c .before .before .group-size .ensures .0) (c .before .keep-bits .ensures) (omega (arith, width-range (c .before .before .before .before .before .before .before .args .mode), length-range (c .before .before .before .before .before .before .before .args .mode)))
+returns c = push-law (c .before .before .before .before .before .before .before .args .mode) (c .before .before .before .before .before .before .before .args .h) (c .before .before .before .before .before .before .before .args .g) _ _ _ _ _ _ (c .before .before .before .before .before .width-of .ensures) (c .before .before .before .before .capacity-of .ensures) (c .before .before .before .low-bits .ensures .0) (c .before .before .group-size .ensures .0) (c .before .keep-bits .ensures) (omega (arith, width-range (c .before .before .before .before .before .before .before .args .mode), capacity-range (c .before .before .before .before .before .before .before .args .mode)))
 
--- src/lib.rt:105:1
 returns-2 : tie.Need-returns-2
-returns-2 c = push-law (c .before .before .before .before .before .before .before .args .mode) (c .before .before .before .before .before .before .before .args .h) (c .before .before .before .before .before .before .before .args .g) _ _ _ _ _ _ (c .before .before .before .before .before .width-of .ensures) (c .before .before .before .before .capacity-of .ensures) (c .before .before .before .low-bits .ensures .0) (c .before .before .group-size .ensures .0) (c .before .keep-bits .ensures) (omega (arith, width-range (c .before .before .before .before .before .before .before .args .mode), length-range (c .before .before .before .before .before .before .before .args .mode)))
+returns-2 c = push-law (c .before .before .before .before .before .before .before .args .mode) (c .before .before .before .before .before .before .before .args .h) (c .before .before .before .before .before .before .before .args .g) _ _ _ _ _ _ (c .before .before .before .before .before .width-of .ensures) (c .before .before .before .before .capacity-of .ensures) (c .before .before .before .low-bits .ensures .0) (c .before .before .group-size .ensures .0) (c .before .keep-bits .ensures) (omega (arith, width-range (c .before .before .before .before .before .before .before .args .mode), capacity-range (c .before .before .before .before .before .before .before .args .mode)))
 
 pub push-group-spec : {M : Type 1} → statement M
 push-group-spec =

@@ -1,4 +1,4 @@
-use Rattle.line.proofs.ByMode.{width-range, length-range}
+use Rattle.line.proofs.ByMode.{width-range, capacity-range}
 use native.Mathlib.Omega.{arith}
 use Rattle.scrambler.proofs.RegisterLaws.{ok-law, not-ok-law}
 use borrow.Author.Needs.{needs}
@@ -15,7 +15,7 @@ cast-result : tie.Need-cast-result
 cast-result c = search needs
 
 shr-result : tie.Need-shr-result
-shr-result c = omega (arith, length-range (c .before .before .args .mode) .1)
+shr-result c = omega (arith, capacity-range (c .before .before .args .mode) .1)
 
 returns : tie.Need-returns
 returns c = search ok-law

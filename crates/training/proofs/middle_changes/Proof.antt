@@ -1,7 +1,7 @@
 use mathlib.Core.Path.{refl}
 use Rattle.scrambler.specs.Scramble.{mix}
 use Rattle.scrambler.specs.Register.{back, nearTap, push}
-use Rattle.line.specs.Mode.{capacity}
+use Rattle.line.specs.Mode.{farTap, capacity}
 use Rattle.training.proofs.MiddleLaws.{table-rule}
 use Rattle.training.proofs.middle_changes.Statement.{statement}
 use Rattle.training.proofs.middle_changes.Tie as tie
@@ -9,7 +9,7 @@ use Rattle.training.proofs.middle_changes.Reads as reads
 use Rattle.training.proofs.middle_changes.Lts as lts
 
 returns : tie.Need-returns
-unfolding capacity back nearTap push mix
+unfolding capacity farTap back nearTap push mix
 returns c = table-rule _ refl tt
 
 pub middle-changes-spec : {M : Type 1} → statement M
