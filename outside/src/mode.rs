@@ -98,6 +98,13 @@ pub static MODES: [Mode; 4] = [
     },
 ];
 
+/// Every mode with each of its roles.
+pub fn modes_and_roles() -> impl Iterator<Item = (&'static Mode, u8)> {
+    let roles = |mode: &Mode| 0..mode.near_taps.len() as u8;
+    let with_roles = move |mode| roles(mode).map(move |role| (mode, role));
+    MODES.iter().flat_map(with_roles)
+}
+
 impl Mode {
     /// The mode of a number; number 1 refuses any other.
     pub fn find(number: u8) -> Result<&'static Mode, Refusal> {

@@ -1,6 +1,8 @@
 //! A small deterministic generator for tests and comparison programs
 //! (splitmix64): the same seed gives the same numbers everywhere.
 
+use crate::mode::{Mode, MODES};
+
 /// The generator's state.
 #[derive(Clone, Debug)]
 pub struct Rng {
@@ -30,6 +32,17 @@ impl Rng {
     pub fn between(&mut self, first: i64, last: i64) -> i64 {
         let count = last.wrapping_sub(first) as u64;
         first.wrapping_add(self.below(count.saturating_add(1)) as i64)
+    }
+
+    /// One of some values, of which there must be one.
+    pub fn pick<T: Copy>(&mut self, all: &[T]) -> T {
+        all[self.below(all.len() as u64) as usize]
+    }
+
+    /// A mode and one of its roles.
+    pub fn mode_and_role(&mut self) -> (&'static Mode, u8) {
+        let mode = &MODES[self.below(4) as usize];
+        (mode, self.below(mode.near_taps.len() as u64) as u8)
     }
 
     /// Data bits, one in a byte.

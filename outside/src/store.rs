@@ -1,7 +1,7 @@
 //! The track store on bytes (document 01, "Track store").
 
 use crate::mode::Mode;
-use crate::point::Point;
+use crate::point::{in_range, Point};
 use crate::refusal::{need, Refusal};
 
 /// The bytes in a record.
@@ -128,8 +128,11 @@ fn parse_record(record: &[u8]) -> Option<Record> {
         KIND_POINTS if (1..=RECORD_POINTS).contains(&count) => {
             let (points, unused) = record[BODY_AT..].split_at(POINT_BYTES * count);
             let mut points = points.chunks_exact(POINT_BYTES);
-            let in_range = points.all(|bytes| point_at(bytes, 0).in_range());
-            (in_range && all_zero(unused)).then_some(Record::Points(count))
+            let fits = points.all(|bytes| {
+                let Point { re, im } = point_at(bytes, 0);
+                in_range(&[re, im])
+            });
+            (fits && all_zero(unused)).then_some(Record::Points(count))
         }
         KIND_LOST if count == 0 => {
             let lost = u32_at(record, BODY_AT);
@@ -262,7 +265,7 @@ pub fn make(store: &mut [u8], mode: u8, role: u8) -> Result<(), Refusal> {
 
 /// Appends a point. Refuses by 8 and 11 to 17.
 pub fn append_point(store: &mut [u8], re: i16, im: i16) -> Result<(), Refusal> {
-    append_points(store, &[Point { re, im }])
+    append_points(store, &[re, im])
 }
 
 /// Appends a lost count. Refuses by 9 and 11 to 17.
@@ -280,43 +283,37 @@ pub fn append_lost(store: &mut [u8], n: u32) -> Result<(), Refusal> {
     Ok(())
 }
 
-/// Appends points, all or none: does what appending them one after another
-/// does, or refuses with the number of the first that would be refused. An
-/// empty list appends nothing and is not refused.
-pub fn append_points(store: &mut [u8], points: &[Point]) -> Result<(), Refusal> {
-    let Some(first) = points.first() else {
-        return Ok(());
-    };
-    need(first.in_range(), Refusal::COORDINATE)?;
+/// Appends points, re and im in turn, all or none: what appending them one after
+/// another does. Gives the lowest number that applies over the whole call: 7 for
+/// a last number without its partner, 8 for any point out of range, 11 to 15, 16
+/// for the total after all of them, 17 for fewer places than points.
+pub fn append_points(store: &mut [u8], numbers: &[i16]) -> Result<(), Refusal> {
+    need(numbers.len().is_multiple_of(2), Refusal::LENT_NUMBERS)?;
+    need(in_range(numbers), Refusal::COORDINATE)?;
     let mut chain = check(store)?;
-    check_points(store, &chain, points)?;
-    for &point in points {
-        put_point(store, &mut chain, point);
+    let total = chain.total_after(store, numbers.len() / 2)?;
+    for pair in numbers.chunks_exact(2) {
+        put_point(store, &mut chain, pair);
     }
-    // No overflow: number 16 was checked.
-    let total = chain.total + points.len() as u32;
     set_total(store, total);
     Ok(())
 }
 
-/// Numbers 8, 16 and 17 of the first point that meets one of them.
-fn check_points(store: &[u8], chain: &Chain, points: &[Point]) -> Result<(), Refusal> {
-    let intervals_left = (u32::MAX - chain.total) as usize;
-    let records_left = store.len() / RECORD - 1 - chain.greatest;
-    let places_left = chain.room + RECORD_POINTS * records_left;
-    let accepted = intervals_left.min(places_left).min(points.len());
-    let in_range = points[..accepted].iter().all(|point| point.in_range());
-    need(in_range, Refusal::COORDINATE)?;
-    let Some(refused) = points.get(accepted) else {
-        return Ok(());
-    };
-    need(refused.in_range(), Refusal::COORDINATE)?;
-    need(accepted < intervals_left, Refusal::TOO_LONG)?;
-    Err(Refusal::STORE_FULL)
+impl Chain {
+    /// The total after so many points more. Numbers 16 and 17.
+    pub(crate) fn total_after(&self, store: &[u8], points: usize) -> Result<u32, Refusal> {
+        let more = u32::try_from(points).ok();
+        let total = more.and_then(|more| self.total.checked_add(more));
+        let records_left = store.len() / RECORD - 1 - self.greatest;
+        let places_left = self.room + RECORD_POINTS * records_left;
+        let total = total.ok_or(Refusal::TOO_LONG)?;
+        need(points <= places_left, Refusal::STORE_FULL)?;
+        Ok(total)
+    }
 }
 
 /// Writes a point behind the last of the chain.
-fn put_point(store: &mut [u8], chain: &mut Chain, point: Point) {
+fn put_point(store: &mut [u8], chain: &mut Chain, pair: &[i16]) {
     if chain.room == 0 {
         add_record(store, chain, KIND_POINTS);
         chain.room = RECORD_POINTS;
@@ -324,8 +321,8 @@ fn put_point(store: &mut [u8], chain: &mut Chain, point: Point) {
     let count = RECORD_POINTS - chain.room;
     let record = RECORD * chain.last;
     let at = record + BODY_AT + POINT_BYTES * count;
-    store[at..at + 2].copy_from_slice(&point.re.to_le_bytes());
-    store[at + 2..at + 4].copy_from_slice(&point.im.to_le_bytes());
+    store[at..at + 2].copy_from_slice(&pair[0].to_le_bytes());
+    store[at + 2..at + 4].copy_from_slice(&pair[1].to_le_bytes());
     store[record + COUNT_AT] = count as u8 + 1;
     chain.room -= 1;
 }

@@ -312,15 +312,13 @@ fn chains_in_any_order_are_walked() {
 #[test]
 fn the_greatest_store_is_filled() {
     let mut store = made(2048, 4, 1);
-    let points: Vec<Point> = (0..7 * 2047)
-        .map(|k| Point {
-            re: k as i16,
-            im: 1,
-        })
+    let points: Vec<i16> = (0..7 * 2047).flat_map(|k| [k, 1]).collect();
+    append_points(&mut store, &points[..10]).unwrap();
+    append_points(&mut store, &points[10..]).unwrap();
+    let events: Vec<Event> = points
+        .chunks(2)
+        .map(|pair| point(pair[0], pair[1]))
         .collect();
-    append_points(&mut store, &points[..5]).unwrap();
-    append_points(&mut store, &points[5..]).unwrap();
-    let events: Vec<Event> = points.iter().map(|&point| Event::Point(point)).collect();
     assert_eq!(read(&store).unwrap(), events);
     assert_eq!(number(append_point(&mut store, 0, 0)), 17);
 }
@@ -349,38 +347,120 @@ fn appended_events_are_read_in_order() {
     }
 }
 
-/// Many points at once do what single appends do, and all or nothing.
+/// Free places for points: those left in the last record, if it is of kind 1, and
+/// 7 in each record after the greatest index.
+fn places_by_text(store: &[u8]) -> usize {
+    let (mut last, mut greatest, mut index) = (0, 0, u16_at(store, 6));
+    while index != 0 {
+        (last, greatest) = (index, greatest.max(index));
+        index = u16_at(store, 32 * index);
+    }
+    let left = match store[32 * last + 2] {
+        1 if last > 0 => 7 - usize::from(store[32 * last + 3]),
+        _ => 0,
+    };
+    left + 7 * (store.len() / 32 - 1 - greatest)
+}
+
+/// All numbers that apply to an append of points, each found on its own; 16 and
+/// 17 are of accepted stores only.
+fn numbers_by_text(store: &[u8], numbers: &[i16]) -> Vec<u8> {
+    let (points, of_store) = (numbers.len() / 2, number_by_text(store));
+    let beyond = numbers.iter().any(|x| x.unsigned_abs() > 16384);
+    let long = || u32_at(store, 8) + points > 4294967295;
+    let full = || points > places_by_text(store);
+    let conditions = [
+        (numbers.len() % 2 == 1, 7),
+        (beyond, 8),
+        (of_store > 0, of_store),
+        (of_store == 0 && long(), 16),
+        (of_store == 0 && full(), 17),
+    ];
+    let applies = conditions.into_iter().filter(|(met, _)| *met);
+    applies.map(|(_, number)| number).collect()
+}
+
+/// A store with few places left or few intervals, sound or damaged.
+fn nearly_full(rng: &mut Rng) -> Vec<u8> {
+    let mut store = made(rng.between(2, 6) as usize, 1, 0);
+    let lost = rng.pick(&[1, u32::MAX - 12, u32::MAX - 3]);
+    append_lost(&mut store, lost).unwrap();
+    for _ in 0..rng.below(9) {
+        let _ = append_point(&mut store, 1, 2);
+    }
+    match rng.below(12) {
+        0 => store.truncate(store.len() - 1),
+        1 => store[31] = 1,
+        2 => store[32] = 77,
+        3 => store[34] = 3,
+        4 => store[8] ^= 1,
+        _ => {}
+    }
+    store
+}
+
+/// Points at once give the lowest number that applies, and are refused exactly
+/// when a single append would be; else they leave what the single appends leave.
 #[test]
 fn points_at_once_equal_single_appends() {
     let mut rng = Rng::new(13);
     let mut seen = HashSet::new();
-    for _ in 0..3_000 {
-        let mut store = made(rng.between(2, 6) as usize, 1, 0);
-        let lost = [1, u32::MAX - 12, u32::MAX - 3][rng.below(3) as usize];
-        let _ = append_lost(&mut store, lost);
-        for _ in 0..rng.below(9) {
-            let _ = append_point(&mut store, 1, 2);
+    for _ in 0..30_000 {
+        let before = nearly_full(&mut rng);
+        let count = [0, 1, rng.below(30), rng.below(60)][rng.below(4) as usize];
+        let mut numbers: Vec<i16> = (0..2 * count as i16).collect();
+        if rng.below(4) == 0 && count > 0 {
+            let at = rng.below(numbers.len() as u64) as usize;
+            numbers[at] = rng.pick(&[-16385, 16385, i16::MIN]);
         }
-        store[32] ^= u8::from(rng.below(10) == 0);
-        let points: Vec<Point> = (0..rng.below(30))
-            .map(|k| Point {
-                re: if rng.below(40) == 0 { -16385 } else { k as i16 },
-                im: -1,
-            })
-            .collect();
-        let mut single = store.clone();
-        let mut appends = points.iter().map(|p| append_point(&mut single, p.re, p.im));
-        let result = appends.find(|result| result.is_err()).unwrap_or(Ok(()));
-        if result.is_err() {
-            single = store.clone();
+        if rng.below(20) == 0 {
+            numbers.push(rng.pick(&[0, 16385]));
         }
-        assert_eq!(append_points(&mut store, &points), result);
-        assert_eq!(store, single);
-        seen.insert(number(result));
+        let mut store = before.clone();
+        let found = number(append_points(&mut store, &numbers));
+        let applying = numbers_by_text(&before, &numbers);
+        assert_eq!(found, applying.first().copied().unwrap_or(0));
+        let mut single = before.clone();
+        let mut pairs = numbers.chunks(2);
+        let taken = numbers.len() % 2 == 0
+            && read(&before).is_ok()
+            && pairs.all(|pair| append_point(&mut single, pair[0], pair[1]).is_ok());
+        assert_eq!(found == 0, taken);
+        assert!(store == if taken { single } else { before });
+        seen.insert((applying, numbers.is_empty()));
     }
-    assert!([0, 8, 13, 16, 17]
-        .iter()
-        .all(|number| seen.contains(number)));
+    let mut alone: Vec<Vec<u8>> = [7, 8, 16, 17].map(|number| vec![number]).to_vec();
+    alone.extend((11..=15).map(|number| vec![number]));
+    let pairs = [7, 8].map(|low| [8, 11, 12, 13, 14, 15, 16, 17].map(|high| vec![low, high]));
+    let pairs = pairs.concat().into_iter().filter(|pair| pair[0] < pair[1]);
+    let both = alone.into_iter().chain(pairs).chain([vec![], vec![16, 17]]);
+    for applying in both {
+        assert!(seen.contains(&(applying.clone(), false)), "{applying:?}");
+    }
+    // Without points the store's own number is still given.
+    for applying in (11..=15).map(|number| vec![number]).chain([vec![]]) {
+        assert!(seen.contains(&(applying.clone(), true)), "{applying:?}");
+    }
+}
+
+#[test]
+fn a_later_point_out_of_range_goes_before_the_store() {
+    let mut store = made(2, 1, 0);
+    let refused = |store: &mut [u8], numbers: &[i16]| {
+        let before = store.to_vec();
+        let found = number(append_points(store, numbers));
+        assert_eq!(store, before);
+        found
+    };
+    assert_eq!(refused(&mut store[..63], &[0, 0, 0, 16385]), 8);
+    assert_eq!(refused(&mut store[..63], &[0, 0, 0, 16384]), 11);
+    assert_eq!(refused(&mut store[..63], &[]), 11);
+    assert_eq!(refused(&mut store[..63], &[0, 0, 16385]), 7);
+    append_points(&mut store, &[1; 12]).unwrap();
+    assert_eq!(refused(&mut store, &[0, 0, 0, 0, -16385, 0]), 8);
+    assert_eq!(refused(&mut store, &[0, 0, 0, 0, -16384, 0]), 17);
+    assert_eq!(number(append_points(&mut store, &[])), 0);
+    assert_eq!(number(append_points(&mut store, &[0, 0])), 0);
 }
 
 #[test]

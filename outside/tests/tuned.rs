@@ -1,6 +1,6 @@
 //! The tuned block receiver gives what the plain one gives.
 
-use outside::mode::{Mode, MODES};
+use outside::mode::{modes_and_roles, Mode, MODES};
 use outside::point;
 use outside::receiver::{self, Receiver};
 use outside::refusal::Refusal;
@@ -10,16 +10,6 @@ use outside::units::{BitCount, UnitIntervals};
 
 /// Bytes beyond what a call writes, to show what it leaves.
 const UNWRITTEN: u8 = 0xa5;
-
-fn modes_and_roles() -> impl Iterator<Item = (&'static Mode, u8)> {
-    MODES
-        .iter()
-        .flat_map(|mode| (0..mode.near_taps.len() as u8).map(move |role| (mode, role)))
-}
-
-fn one_of<T: Copy>(rng: &mut Rng, all: &[T]) -> T {
-    all[rng.below(all.len() as u64) as usize]
-}
 
 /// Receives plainly and tuned, in both ways, into so many lent bytes; gives what
 /// all gave.
@@ -48,7 +38,7 @@ fn accepted(state: Receiver, points: &[i16]) -> Receiver {
 /// A receiver with a reference and so many line bits.
 fn holding(rng: &mut Rng, mode: &Mode, role: u8, held: u32) -> Receiver {
     Receiver {
-        reference: Some(one_of(rng, mode.states)),
+        reference: Some(rng.pick(mode.states)),
         register: rng.below(1 << held) as u32,
         held: BitCount(held),
         place: UnitIntervals(rng.below(1 << 31) as u32),
@@ -117,7 +107,7 @@ fn points_on_and_beside_decision_edges() {
 fn noisy(rng: &mut Rng, mode: &Mode, count: usize, origins: u64) -> Vec<i16> {
     let mut points = Vec::new();
     for _ in 0..count {
-        let sent = point::sent(mode, one_of(rng, mode.states));
+        let sent = point::sent(mode, rng.pick(mode.states));
         let mut moved = |x: i16| x + rng.between(-900, 900) as i16;
         let point = [moved(sent.re), moved(sent.im)];
         let lost = rng.below(origins) == 0;

@@ -1,6 +1,6 @@
 //! The tuned sender gives what the plain one gives.
 
-use outside::mode::{Mode, MODES};
+use outside::mode::{modes_and_roles, Mode};
 use outside::refusal::Refusal;
 use outside::rng::Rng;
 use outside::sender::{self, Sender};
@@ -9,12 +9,6 @@ use outside::units::BitCount;
 
 /// A lent number before a call, to show what a call leaves.
 const UNWRITTEN: i16 = 0x5a5a;
-
-fn modes_and_roles() -> impl Iterator<Item = (&'static Mode, u8)> {
-    MODES
-        .iter()
-        .flat_map(|mode| (0..mode.near_taps.len() as u8).map(move |role| (mode, role)))
-}
 
 /// Sends on both sides; gives what both gave.
 fn send(state: Sender, input: &[u8], lent: usize, offset: usize) -> Result<Sender, Refusal> {
@@ -32,7 +26,7 @@ fn random_state(rng: &mut Rng, mode: &Mode, role: u8) -> Sender {
     Sender {
         mode: mode.number,
         role,
-        reference: mode.states[rng.below(mode.states.len() as u64) as usize],
+        reference: rng.pick(mode.states),
         register: rng.below(1 << mode.register_length) as u32,
         held: BitCount(mode.register_length),
     }

@@ -1,38 +1,26 @@
 //! The tuned append and listing give what the plain ones give.
 
 use outside::listing;
-use outside::mode::MODES;
-use outside::point::Point;
 use outside::refusal::Refusal;
 use outside::rng::Rng;
 use outside::store::{self, RECORD};
 use outside::tuned::{self, LISTING_ROOM};
 
-fn flat(points: &[Point]) -> Vec<i16> {
-    points
-        .iter()
-        .flat_map(|point| [point.re, point.im])
-        .collect()
-}
-
-fn random_points(rng: &mut Rng, count: usize) -> Vec<Point> {
-    let sizes = [0, 2, 3000, 16384];
+/// The numbers of random points.
+fn random_points(rng: &mut Rng, count: usize) -> Vec<i16> {
     let mut one = |_| {
-        let size = sizes[rng.below(4) as usize];
-        Point {
-            re: rng.between(-size, size) as i16,
-            im: rng.between(-size, size) as i16,
-        }
+        let size = rng.pick(&[0, 2, 3000, 16384]);
+        [(); 2].map(|()| rng.between(-size, size) as i16)
     };
-    (0..count).map(&mut one).collect()
+    (0..count).flat_map(&mut one).collect()
 }
 
-/// Appends on both sides and lists what comes of it; gives what both gave.
-fn append(bytes: &mut [u8], points: &[Point]) -> Result<(), Refusal> {
+/// Appends on both sides; gives what both gave.
+fn append(bytes: &mut [u8], numbers: &[i16]) -> Result<(), Refusal> {
     let before = bytes.to_vec();
     let mut right = before.clone();
-    let told = tuned::append_points(bytes, &flat(points));
-    assert_eq!(told, store::append_points(&mut right, points));
+    let told = tuned::append_points(bytes, numbers);
+    assert_eq!(told, store::append_points(&mut right, numbers));
     assert!(bytes == right);
     assert!(told.is_ok() || *bytes == before[..]);
     told
@@ -49,8 +37,7 @@ fn compare_listings(bytes: &[u8], out: &mut [u8]) {
 fn random_store(rng: &mut Rng) -> Vec<u8> {
     let records = rng.between(2, 12) as usize;
     let mut bytes = vec![0; RECORD * records];
-    let mode = &MODES[rng.below(4) as usize];
-    let role = rng.below(mode.near_taps.len() as u64) as u8;
+    let (mode, role) = rng.mode_and_role();
     store::make(&mut bytes, mode.number, role).unwrap();
     for _ in 0..rng.below(2 * records as u64) {
         let count = rng.below(20) as usize;
@@ -100,7 +87,10 @@ fn sound_stores() {
             let count = rng.below(30) as usize;
             let mut points = random_points(&mut rng, count);
             if rng.below(4) == 0 && count > 0 {
-                points[rng.below(count as u64) as usize].im = -16385;
+                points[rng.below(2 * count as u64) as usize] = -16385;
+            }
+            if rng.below(30) == 0 {
+                points.push(16385);
             }
             let told = append(&mut bytes, &points);
             met[usize::from(told.err().map_or(0, |refusal| refusal.0))] += 1;
@@ -108,7 +98,7 @@ fn sound_stores() {
         compare_listings(&bytes, &mut out);
     }
     assert!(
-        [0, 8, 16, 17].iter().all(|&number| met[number] > 100),
+        [0, 7, 8, 16, 17].iter().all(|&number| met[number] > 100),
         "{met:?}"
     );
 }
@@ -132,7 +122,8 @@ fn damaged_stores() {
             bytes.truncate(rng.below(bytes.len() as u64) as usize);
         }
         compare_listings(&bytes, &mut out);
-        let points = random_points(&mut rng, 3);
+        let count = 3 * rng.below(2) as usize;
+        let points = random_points(&mut rng, count);
         let told = append(&mut bytes, &points);
         met[usize::from(told.err().map_or(0, |refusal| refusal.0))] += 1;
     }
@@ -160,7 +151,7 @@ fn places_with_more_and_more_digits() {
         let mut bytes = vec![0; RECORD * 20];
         store::make(&mut bytes, 3, 0).unwrap();
         store::append_lost(&mut bytes, 10u32.pow(power).saturating_sub(50).max(1)).unwrap();
-        append(&mut bytes, &[Point { re: 1, im: 1 }; 100]).unwrap();
+        append(&mut bytes, &[1; 200]).unwrap();
         compare_listings(&bytes, &mut out);
     }
 }
@@ -171,11 +162,8 @@ fn numbers_and_bytes_too_few() {
     let mut out = vec![9; LISTING_ROOM - 1];
     assert_eq!(tuned::list(&bytes, &mut out), Err(Refusal(7)));
     assert!(out.iter().all(|&byte| byte == 9));
-    assert_eq!(tuned::append_points(&mut bytes, &[4]), Err(Refusal(7)));
-    assert_eq!(
-        tuned::append_points(&mut bytes, &[0, 0, 16385]),
-        Err(Refusal(7))
-    );
-    assert_eq!(tuned::append_points(&mut bytes, &[]), Ok(()));
+    assert_eq!(append(&mut bytes, &[4]), Err(Refusal(7)));
+    assert_eq!(append(&mut bytes, &[0, 0, 16385]), Err(Refusal(7)));
+    assert_eq!(append(&mut bytes, &[]), Err(Refusal(12)));
     assert_eq!(bytes, vec![0; 2 * RECORD]);
 }

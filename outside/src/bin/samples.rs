@@ -10,7 +10,6 @@ use std::process::ExitCode;
 
 use outside::listing;
 use outside::mode::Mode;
-use outside::point::Point;
 use outside::rng::Rng;
 use outside::sender::{self, Sender};
 use outside::store::{append_lost, append_point, append_points, make, MOST_RECORDS, RECORD};
@@ -68,28 +67,20 @@ fn example() -> Vec<u8> {
     store
 }
 
-/// A sender after its shortest training, and the training's points.
-fn opened(mode: u8, role: u8) -> (Sender, Vec<Point>) {
+/// A sender after its shortest training, and the numbers of the training's points.
+fn opened(mode: u8, role: u8) -> (Sender, Vec<i16>) {
     let (length, intervals) = if mode <= 2 { (0, 80) } else { (1280, 1552) };
     let mut out = vec![0; 2 * intervals];
     let state = sender::open(mode, role, length, &mut out, 0).unwrap();
-    (state, pairs(&out))
+    (state, out)
 }
 
-/// Data points of random bits, and the sender after them.
-fn sent(state: Sender, rng: &mut Rng, points: usize) -> (Sender, Vec<Point>) {
+/// Data points of random bits, re and im in turn, and the sender after them.
+fn sent(state: Sender, rng: &mut Rng, points: usize) -> (Sender, Vec<i16>) {
     let width = Mode::find(state.mode).unwrap().width as usize;
     let mut out = vec![0; 2 * points];
     let next = sender::send(state, &rng.bits(points * width), &mut out, 0).unwrap();
-    (next, pairs(&out))
-}
-
-fn pairs(numbers: &[i16]) -> Vec<Point> {
-    let point = |pair: &[i16]| Point {
-        re: pair[0],
-        im: pair[1],
-    };
-    numbers.chunks_exact(2).map(point).collect()
+    (next, out)
 }
 
 /// Data points with a loss, an origin point and a loss that takes the place far on.
@@ -116,9 +107,9 @@ fn trained() -> Vec<u8> {
     let mut rng = Rng::new(2);
     let mut store = made(20, 2, 0);
     let (state, training) = opened(2, 0);
-    append_points(&mut store, &training[..30]).unwrap();
+    append_points(&mut store, &training[..2 * 30]).unwrap();
     append_lost(&mut store, 12).unwrap();
-    append_points(&mut store, &training[42..]).unwrap();
+    append_points(&mut store, &training[2 * 42..]).unwrap();
     append_point(&mut store, 0, 0).unwrap();
     let (_, points) = sent(state, &mut rng, 12);
     append_points(&mut store, &points).unwrap();
@@ -171,20 +162,17 @@ fn append_some(store: &mut [u8], rng: &mut Rng) -> bool {
         return append_lost(store, 1 + n).is_ok();
     }
     let most = if rng.below(3) == 0 { 2 } else { 16384 };
-    let points: Vec<Point> = (0..1 + rng.below(30))
-        .map(|_| Point {
-            re: rng.between(-most, most) as i16,
-            im: rng.between(-most, most) as i16,
-        })
+    let numbers: Vec<i16> = (0..2 * (1 + rng.below(30)))
+        .map(|_| rng.between(-most, most) as i16)
         .collect();
-    append_points(store, &points).is_ok()
+    append_points(store, &numbers).is_ok()
 }
 
 /// The longest listing but a few bytes: a great loss, and then points alone.
 fn full() -> Vec<u8> {
     let mut store = made(MOST_RECORDS, 4, 0);
     append_lost(&mut store, 4_294_952_000).unwrap();
-    let points = vec![Point { re: 3072, im: 1024 }; 7 * (MOST_RECORDS - 2)];
+    let points = [3072, 1024].repeat(7 * (MOST_RECORDS - 2));
     append_points(&mut store, &points).unwrap();
     store
 }

@@ -11,33 +11,15 @@ use crate::store::{
 /// The numbers of a record's points.
 const POINT_NUMBERS: usize = 2 * RECORD_POINTS;
 
-/// What `store::append_points` does, of points as re and im in turn. Refuses
-/// also by 7: a last number without its partner.
+/// What `store::append_points` does.
 pub fn append_points(store: &mut [u8], numbers: &[i16]) -> Result<(), Refusal> {
     need(numbers.len().is_multiple_of(2), Refusal::LENT_NUMBERS)?;
-    let Some(first) = numbers.get(..2) else {
-        return Ok(());
-    };
-    need(in_range(first), Refusal::COORDINATE)?;
+    need(in_range(numbers), Refusal::COORDINATE)?;
     let chain = chain::check(store)?;
-    check_points(store, &chain, numbers)?;
+    let total = chain.total_after(store, numbers.len() / 2)?;
     put_points(store, &chain, numbers);
-    let total = chain.total + (numbers.len() / 2) as u32;
     store[TOTAL_AT..RECORD_0_END].copy_from_slice(&total.to_le_bytes());
     Ok(())
-}
-
-/// Numbers 8, 16 and 17 of the first point that meets one of them.
-fn check_points(store: &[u8], chain: &Chain, numbers: &[i16]) -> Result<(), Refusal> {
-    let count = numbers.len() / 2;
-    let intervals_left = (u32::MAX - chain.total) as usize;
-    let records_left = store.len() / RECORD - 1 - chain.greatest;
-    let places_left = chain.room + RECORD_POINTS * records_left;
-    // The points up to the first that is refused by 16 or 17.
-    let judged = count.min(intervals_left + 1).min(places_left + 1);
-    need(in_range(&numbers[..2 * judged]), Refusal::COORDINATE)?;
-    need(judged <= intervals_left, Refusal::TOO_LONG)?;
-    need(judged <= places_left, Refusal::STORE_FULL)
 }
 
 fn put_points(store: &mut [u8], chain: &Chain, numbers: &[i16]) {
