@@ -10,6 +10,7 @@ use lib.Dec.{ltb}
 use Rattle.io.specs.Digits.{glyph, Fewest}
 use Rattle.io.specs.Digits.{digits as ioDigits}
 use Rattle.listing.specs.Text.{digits, decimal}
+use Rattle.list_track.specs.Decimals.{IoDecimal}
 
 digit : (d : ℕ) → d < 10 → 48 + d ≡ glyph d
 digit d h = sym (ap (λ (b : Bool). cond b (48 + d) (87 + d)) (lt-ltb d 10 h))
@@ -39,7 +40,6 @@ same (suc f) (suc (suc k)) n h e =
     positive zero = omega arith
     positive (suc k) = omega (arith, pow-suc 10 k, positive k)
 
--- of every number of at most ten digits, so of every one that is listed
-pub io-decimal : (n k : ℕ) → k ≤ 10 → Fewest 10 1 n k → decimal n ≡ ioDigits 10 k n
+pub io-decimal : IoDecimal
 unfolding decimal
 io-decimal n k h e = same 10 k n h e

@@ -29,7 +29,7 @@ fn list_first(input: &[u8], n: usize, out: &mut [u8; 372591]) -> usize
 }
 
 // A store has at most 65,536 bytes. One byte more is kept, so that a longer input is refused for its size, as the whole of
-// it would be (`text-over` of listing/proofs/Texts).
+// it would be (`TooLong` of listing/specs/Laws).
 fn main() {
     let mut input = [0u8; 65537];
     let n = io::read_full(libc::STDIN_FILENO, &mut input);

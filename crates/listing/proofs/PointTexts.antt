@@ -16,13 +16,13 @@ use Rattle.line.specs.Refusal.{accepted}
 use Rattle.line.proofs.ByMode.{by-all}
 use Rattle.line.proofs.TableLaws.{row-below}
 use Rattle.line.proofs.PointLaws.{pairs-length}
+use Rattle.line.proofs.RefusalLaws.{next-rest}
 use Rattle.octets.specs.Number.{u16, i16, signed}
 use Rattle.octets.proofs.Numbers.{u16-drop}
 use Rattle.octets.proofs.Sets.{sets-whole}
 use Rattle.deciding.specs.declared.Decision.{Decision}
 use Rattle.deciding.specs.declared.Decision.the-variants.{State, Origin, NoSector}
 use Rattle.deciding.specs.Decide.{decide}
-use Rattle.deciding.proofs.SectorLaws.{never-no-sector}
 use Rattle.coding.specs.Code.{changes4, changes8, changes16, eighths, turnRow, group}
 use Rattle.scrambler.specs.Bits.{bits}
 use Rattle.scrambler.specs.Group.{descrambled, marked}
@@ -33,21 +33,20 @@ use Rattle.receiver.specs.declared.Receiver.{Receiver}
 use Rattle.receiver.specs.declared.Outcome.{Outcome}
 use Rattle.receiver.specs.declared.Outcome.the-variants.{Refused}
 use Rattle.receiver.specs.Receiver.{Answer, decoded, stateRefusal, inSector, answer, next}
-use Rattle.receiver.specs.Receiver.{point as hears, refusal as refused}
+use Rattle.receiver.specs.Receiver.{Event as Call, point, refusal as refused}
 use Rattle.receiver.specs.Outcome.{answerOf, groupOf, stateOutcome, pointOutcome, eventOutcome, outcome}
-use Rattle.receiver.specs.Calls.{after}
-use Rattle.receiver.proofs.OutcomeLaws.{told}
+use Rattle.receiver.specs.Calls.{after, EachAccepted}
+use Rattle.receiver.proofs.OutcomeLaws.{told, in-sector}
 use Rattle.receiver.proofs.CallLaws.{no-refusal, accepted-valid, same-next}
 use Rattle.bulk.specs.declared.Block.{Block}
 use Rattle.bulk.specs.declared.Block.the-variants.{Refused as NotTaken, Taken}
-use Rattle.bulk.specs.Block.{lineByte, plainByte, outcomes, EachAccepted, lentOk, blockRefusal, block, lineBytes, plainBytes}
+use Rattle.bulk.specs.Block.{lineByte, plainByte, outcomes, EachAccepted as PointsAccepted, lentOk, blockRefusal, block, lineBytes, plainBytes}
 use Rattle.bulk.proofs.BlockLaws.{has-place, each-has-place, at-once}
-use Rattle.store.specs.Layout.{Event, point, points}
-use Rattle.listing.specs.Text.{lineText, lines, through}
-use Rattle.listing.specs.Heard.{AllTaken}
+use Rattle.store.specs.Layout.{points}
+use Rattle.listing.specs.Text.{lineText, taken, lines}
 use Rattle.listing.specs.Wrote.{Wrote, Went, numbersIn, byteAnswer, byteLines}
 use Rattle.listing.proofs.Writes.{wrote-as}
-use Rattle.listing.proofs.Heards.{in-sector, placed}
+use Rattle.listing.proofs.Heards.{placed}
 
 -- ---- the numbers of a record
 numbers-long : (bs : List ℕ) (n : ℕ) → length (numbersIn bs n) ≡ n
@@ -61,11 +60,11 @@ numbers-first bs zero n h = refl
 numbers-first bs (suc m) zero h = absurd (omega arith)
 numbers-first bs (suc m) (suc n) h = ap (λ (zs : List ℤ). i16 bs 0 ∷ zs) (numbers-first (drop 2 bs) m n (omega arith))
 
-numbers-points : (bs : List ℕ) (n : ℕ) → points bs n ≡ map point (pairs (numbersIn bs (2 * n)))
+numbers-points : (bs : List ℕ) (n : ℕ) → map taken (points bs n) ≡ map point (pairs (numbersIn bs (2 * n)))
 unfolding numbersIn
 numbers-points bs zero = refl
 numbers-points bs (suc n) =
-    ap₂ (λ (z : ℤ) (es : List Event). point (at (i16 bs 0) z) ∷ es) (ap signed (sym (u16-drop bs 2 0)))
+    ap₂ (λ (z : ℤ) (es : List Call). point (at (i16 bs 0) z) ∷ es) (ap signed (sym (u16-drop bs 2 0)))
     (numbers-points (drop 4 bs) n ∙ ap (λ (l : List ℕ). map point (pairs (numbersIn l (2 * n)))) (sym (drop-drop 2 2 bs)))
     ∙ ap (λ (m : ℕ). map point (pairs (numbersIn bs m))) (let e : suc (suc (2 * n)) ≡ 2 * suc n = omega arith in e)
 
@@ -133,46 +132,42 @@ module _ (s : Receiver) where
   point-says Origin t = refl
   point-says NoSector t = absurd t
 
-  byte-answer : (p : Point) → refused s (hears p) ≡ 0 → byteAnswer (width (s .mode)) (lineByte (outcome s (hears p))) (plainByte (outcome s (hears p))) ≡ answer s (hears p)
-  unfolding outcome eventOutcome
+  byte-answer : (p : Point) → refused s (point p) ≡ 0 → byteAnswer (width (s .mode)) (lineByte (outcome s (point p))) (plainByte (outcome s (point p))) ≡ answer s (point p)
+  unfolding outcome eventOutcome refused
   byte-answer p z =
-      subst Says (ap (λ (n : ℕ). accepted n (pointOutcome s (decide (s .mode) p)) (Refused n)) (sym z)) (point-says (decide (s .mode) p) (in-sector (decide (s .mode) p) (never-no-sector (s .mode) p)))
-      ∙ told s (hears p) .answer-is
+      subst Says (ap (λ (n : ℕ). accepted n (pointOutcome s (decide (s .mode) p)) (Refused n)) (sym z)) (point-says (decide (s .mode) p) (in-sector s p (next-rest (stateRefusal s) _ z)))
+      ∙ told s (point p) .answer-is
 
-bytes-lines : (s : Receiver) (ps : List Point) → EachAccepted s ps
+bytes-lines : (s : Receiver) (ps : List Point) → EachAccepted s (map point ps)
     → byteLines (width (s .mode)) (s .place .0) (map lineByte (outcomes s ps)) (map plainByte (outcomes s ps)) ≡ lines s (map point ps)
 bytes-lines s [] f = refl
 bytes-lines s (p ∷ ps) f =
-    let t : Receiver = next s (hears p) in
+    let t : Receiver = next s (point p) in
     ap₂ (λ (a : Answer) (l : List ℕ). lineText (s .place .0) a ++ l) (byte-answer s p (f .0))
-    (ap₂ (λ (w place : ℕ). byteLines w place (map lineByte (outcomes t ps)) (map plainByte (outcomes t ps))) (ap width (sym (same-next s (hears p) .0))) (sym (placed s (hears p) (f .0)))
+    (ap₂ (λ (w place : ℕ). byteLines w place (map lineByte (outcomes t ps)) (map plainByte (outcomes t ps))) (ap width (sym (same-next s (point p) .0))) (sym (placed s (point p) (f .0)))
     ∙ bytes-lines t ps (f .1))
 
 -- ---- the block
-each-taken : (s : Receiver) (ps : List Point) → AllTaken s (map point ps) → EachAccepted s ps
-each-taken s [] a = tt
-each-taken s (p ∷ ps) a = (a .0, each-taken (next s (hears p)) ps (a .1))
-
-after-through : (s : Receiver) (ps : List Point) → after s (map hears ps) ≡ through s (map point ps)
-after-through s [] = refl
-after-through s (p ∷ ps) = after-through (next s (hears p)) ps
+points-accepted : (s : Receiver) (ps : List Point) → EachAccepted s (map point ps) → PointsAccepted s ps
+points-accepted s [] a = tt
+points-accepted s (p ∷ ps) a = (a .0, points-accepted (next s (point p)) ps (a .1))
 
 outcomes-long : (f : Outcome → ℕ) (s : Receiver) (ps : List Point) → length (map f (outcomes s ps)) ≡ length ps
 outcomes-long f s [] = refl
-outcomes-long f s (p ∷ ps) = ap suc (outcomes-long f (next s (hears p)) ps)
+outcomes-long f s (p ∷ ps) = ap suc (outcomes-long f (next s (point p)) ps)
 
-first-passes : (s : Receiver) (ps : List Point) → 1 ≤ length ps → EachAccepted s ps → (stateRefusal s ≡ 0) × (s .place .0 ≤ 4294967295)
+first-passes : (s : Receiver) (ps : List Point) → 1 ≤ length ps → EachAccepted s (map point ps) → (stateRefusal s ≡ 0) × (s .place .0 ≤ 4294967295)
 first-passes s [] h f = absurd (omega arith)
-first-passes s (p ∷ ps) h f = (no-refusal s (accepted-valid s (hears p) (f .0)), omega (arith, has-place s p (f .0)))
+first-passes s (p ∷ ps) h f = (no-refusal s (accepted-valid s (point p) (f .0)), omega (arith, has-place s p (f .0)))
 
-module _ (r : List ℕ) (n : ℕ) (s : Receiver) (numbers : List ℤ) (e : numbers ≡ numbersIn (drop 4 r) 14) (some : 1 ≤ n) (few : n ≤ 7) (free : AllTaken s (points (drop 4 r) n)) where
+module _ (r : List ℕ) (n : ℕ) (s : Receiver) (numbers : List ℤ) (e : numbers ≡ numbersIn (drop 4 r) 14) (some : 1 ≤ n) (few : n ≤ 7) (free : EachAccepted s (map taken (points (drop 4 r) n))) where
   abbrev zs : List ℤ
   zs = take (2 * n) numbers
 
   zs-are : zs ≡ numbersIn (drop 4 r) (2 * n)
   zs-are = ap (take (2 * n)) e ∙ numbers-first (drop 4 r) (2 * n) 14 (omega arith)
 
-  points-are : points (drop 4 r) n ≡ map point (pairs zs)
+  points-are : map taken (points (drop 4 r) n) ≡ map point (pairs zs)
   points-are = numbers-points (drop 4 r) n ∙ ap (λ (l : List ℤ). map point (pairs l)) (sym zs-are)
 
   zs-long : length zs ≡ 2 * n
@@ -181,14 +176,14 @@ module _ (r : List ℕ) (n : ℕ) (s : Receiver) (numbers : List ℤ) (e : numbe
   pairs-long : length (pairs zs) ≡ n
   pairs-long = let l = zs-long in pairs-length zs ∙ (let q : length zs / 2 ≡ n = omega arith in q)
 
-  each-accepted : EachAccepted s (pairs zs)
-  each-accepted = each-taken s (pairs zs) (subst (AllTaken s) points-are free)
+  each-accepted : EachAccepted s (map point (pairs zs))
+  each-accepted = subst (EachAccepted s) points-are free
 
   passes : (stateRefusal s ≡ 0) × (s .place .0 ≤ 4294967295)
   passes = first-passes s (pairs zs) (omega (arith, pairs-long)) each-accepted
 
   pub places : s .place .0 + n ≤ 4294967295
-  places = omega (arith, each-has-place s (pairs zs) (passes .1) each-accepted, pairs-long)
+  places = omega (arith, each-has-place s (pairs zs) (passes .1) (points-accepted s (pairs zs) each-accepted), pairs-long)
 
   -- the bytes of an accepted block, as many as there are points
   first-bytes : (f : Outcome → ℕ) (l l′ : List ℕ) (k : ℕ) → length l ≡ 7 → k ≡ 0 → l′ ≡ accepted k (sets l 0 (map f (outcomes s (pairs zs)))) l
@@ -204,27 +199,27 @@ module _ (r : List ℕ) (n : ℕ) (s : Receiver) (numbers : List ℤ) (e : numbe
     free-block =
         let k = pairs-long in
         at-once s zs (length l) (length p) (passes .0) (passes .1)
-        (rw (eq-eqb (length zs % 2) 0 (omega (arith, zs-long)), le-leb (length (pairs zs)) (length l) (omega arith), le-leb (length (pairs zs)) (length p) (omega arith)) tt) each-accepted
+        (rw (eq-eqb (length zs % 2) 0 (omega (arith, zs-long)), le-leb (length (pairs zs)) (length l) (omega arith), le-leb (length (pairs zs)) (length p) (omega arith)) tt) (points-accepted s (pairs zs) each-accepted)
 
-    is-taken : block s zs (length l) (length p) ≡ Taken (after s (map hears (pairs zs)))
+    is-taken : block s zs (length l) (length p) ≡ Taken (after s (map point (pairs zs)))
     unfolding block
-    is-taken = ap (λ (k : ℕ). accepted k (Taken (after s (map hears (pairs zs)))) (NotTaken k)) free-block
+    is-taken = ap (λ (k : ℕ). accepted k (Taken (after s (map point (pairs zs)))) (NotTaken k)) free-block
 
     pub not-refused : (b : Block) (k : ℕ) → b ≡ block s zs (length l) (length p) → b ≡ NotTaken k → ⊥
     not-refused b k e h = let t = is-taken in let z : _≡_ {A = ℕ} 0 1 = cc in omega arith
 
     pub points-went : {out out′ : List ℕ} {at q : ℕ} (l′ p′ : List ℕ) (b : Block) (t : Receiver) (w : ℕ) → l′ ≡ lineBytes s zs l (length p) → p′ ≡ plainBytes s zs (length l) p
         → b ≡ block s zs (length l) (length p) → b ≡ Taken t → w ≡ width (s .mode) → Wrote out at (byteLines w (s .place .0) (take n l′) (take n p′)) out′ q
-        → Went out at s (points (drop 4 r) n) out′ (record { at = q; state = t })
+        → Went out at s (map taken (points (drop 4 r) n)) out′ (record { at = q; state = t })
     unfolding lineBytes plainBytes
     points-went {out} {out′} {at} {q} l′ p′ b t w fl fp eb et ew a =
-        let taken = is-taken in
-        let state : t ≡ after s (map hears (pairs zs)) = cc in
+        let done = is-taken in
+        let state : t ≡ after s (map point (pairs zs)) = cc in
         rw points-are
         (record {
           wrote = wrote-as
               (ap (λ (v : ℕ). byteLines v (s .place .0) (take n l′) (take n p′)) ew
               ∙ ap₂ (byteLines (width (s .mode)) (s .place .0)) (first-bytes lineByte l l′ _ el free-block fl) (first-bytes plainByte p p′ _ ep free-block fp)
               ∙ bytes-lines s (pairs zs) each-accepted) a;
-          state = state ∙ after-through s (pairs zs);
+          state = state;
         })

@@ -1,24 +1,25 @@
 -- The pieces of a listing make its text. Assumes nothing.
-use mathlib.Core.Path.{_≡_, refl, sym, ap, _∙_}
-use mathlib.Core.Bool.{Bool, true, false, _&&_}
-use mathlib.Core.List.{List, [], _++_}
+use mathlib.Core.Path.{_≡_, sym, ap, _∙_}
+use mathlib.Core.Bool.{true, false, and-false}
+use mathlib.Core.List.{List, _++_, map}
 use Prim.Native.Nat.{ℕ, zero, suc, _+_, _≤_, _<_}
 use native.Mathlib.Omega.{arith}
 use native.Mathlib.Nat.{zero-add}
 use borrow.Author.Tests.{le-leb, lt-leb}
 use lib.Dec.{leb}
 use lib.ListN.{length, getD, take, drop, length-append}
-use lib.Seq.{sets-eq, take-at}
+use lib.Seq.{sets-eq, take-at, length-take-le}
 use Rattle.line.specs.Refusal.{accepted}
 use Rattle.receiver.specs.declared.Receiver.{Receiver}
 use Rattle.receiver.specs.Receiver.{freshReceiver}
+use Rattle.receiver.specs.Calls.{EachAccepted}
 use Rattle.store.specs.Store.{events, total, sizeOk, refusal}
 use Rattle.store.proofs.Records.{rec-byte}
-use Rattle.listing.specs.Text.{lines, firstLine, chainText, refusedLine, modeIn, roleIn, text, longest, listNumber, listCount, listResult}
-use Rattle.listing.specs.Heard.{AllTaken}
+use Rattle.listing.specs.Text.{taken, lines, firstLine, chainText, refusedLine, modeIn, roleIn, text, longest, listNumber, listCount, listResult}
+use Rattle.listing.specs.Laws.{TooLong}
 use Rattle.listing.specs.Wrote.{Wrote}
 use Rattle.listing.proofs.Writes.{wrote-then, wrote-as}
-use Rattle.listing.proofs.Lengths.{track-long, text-long}
+use Rattle.listing.proofs.Lengths.{track-long, none-longer}
 use Rattle.listing.proofs.Heards.{heard-whole}
 
 accepted-text : (s : List ℕ) → refusal s ≡ 0 → text s ≡ chainText (modeIn s) (roleIn s) (total s) (events s)
@@ -32,18 +33,18 @@ module _ (s : List ℕ) (m role t : ℕ) (f : Receiver) (acc : refusal s ≡ 0) 
   role-is : role ≡ roleIn s
   role-is = er ∙ sym (rec-byte s 0 5 (omega arith))
 
-  track-text : firstLine m role t ++ lines f (events s) ≡ text s
+  track-text : firstLine m role t ++ lines f (map taken (events s)) ≡ text s
   unfolding chainText
   track-text = rw (ef, mode-is, role-is, et) (sym (accepted-text s acc))
 
-  pub track-free : t ≤ 4294967295 → AllTaken f (events s)
+  pub track-free : t ≤ 4294967295 → EachAccepted f (map taken (events s))
   track-free h = rw (ef, mode-is, role-is) (heard-whole s acc (omega arith))
 
-  pub track-room : (p : ℕ) → p ≡ 0 + length (firstLine m role t) → p + length (lines f (events s)) ≤ 500000
+  pub track-room : (p : ℕ) → p ≡ 0 + length (firstLine m role t) → p + length (lines f (map taken (events s))) ≤ 500000
   track-room p e =
-      omega (arith, length-append (firstLine m role t) (lines f (events s)), ap length track-text, ap length (accepted-text s acc), track-long s acc)
+      omega (arith, length-append (firstLine m role t) (lines f (map taken (events s))), ap length track-text, ap length (accepted-text s acc), track-long s acc)
 
-  pub track-wrote : {o o₁ o′ : List ℕ} {p q : ℕ} → Wrote o 0 (firstLine m role t) o₁ p → Wrote o₁ p (lines f (events s)) o′ q → Wrote o 0 (text s) o′ q
+  pub track-wrote : {o o₁ o′ : List ℕ} {p q : ℕ} → Wrote o 0 (firstLine m role t) o₁ p → Wrote o₁ p (lines f (map taken (events s))) o′ q → Wrote o 0 (text s) o′ q
   track-wrote a b = wrote-as track-text (wrote-then a b)
 
 -- ---- the call
@@ -57,26 +58,21 @@ module _ (s out : List ℕ) where
   unfolding listNumber listCount listResult
   list-done out′ n h w = let e : leb longest (length out) ≡ true = le-leb longest (length out) h in (rw e, rw e (w .behind ∙ zero-add (length (text s))), rw e (w .written))
 
-  pub refused-text : (k : ℕ) → k ≡ refusal s → (k ≡ 0 → ⊥) → refusedLine k ≡ text s
-  unfolding text
-  refused-text k e nz = go (refusal s) e
-    where
-      go : (n : ℕ) → k ≡ n → refusedLine k ≡ accepted n (chainText (modeIn s) (roleIn s) (total s) (events s)) (refusedLine n)
-      go zero q = absurd (nz q)
-      go (suc n) q = ap refusedLine q
+-- ---- a refused store
+pub refused-text : (s : List ℕ) (k : ℕ) → k ≡ refusal s → (k ≡ 0 → ⊥) → refusedLine k ≡ text s
+unfolding text
+refused-text s k e nz = go (refusal s) e
+  where
+    go : (n : ℕ) → k ≡ n → refusedLine k ≡ accepted n (chainText (modeIn s) (roleIn s) (total s) (events s)) (refusedLine n)
+    go zero q = absurd (nz q)
+    go (suc n) q = ap refusedLine q
 
--- a store that is too long is listed by its size alone: a program need keep no more than 65,537 of its bytes
-and-no : (b : Bool) → (b && false) ≡ false
-and-no true = refl
-and-no false = refl
-
-refused-over : (s : List ℕ) → 65536 < length s → 11 ≡ refusal s
+refused-over : (s : List ℕ) → 65536 < length s → text s ≡ refusedLine 11
 unfolding refusal sizeOk
-refused-over s h = rw (lt-leb (length s) 65536 h, and-no)
+refused-over s h = sym (refused-text s 11 (rw (lt-leb (length s) 65536 h, and-false)) (λ e. omega arith))
 
-pub text-over : (s t : List ℕ) → 65536 < length s → 65536 < length t → text s ≡ text t
-text-over s t h k =
-    sym (refused-text s [] 11 (refused-over s h) (λ e. omega arith)) ∙ refused-text t [] 11 (refused-over t k) (λ e. omega arith)
+pub too-long : TooLong
+too-long s h = (refused-over s h, refused-over (take 65537 s) (omega (arith, length-take-le 65537 s (omega arith))))
 
 -- what a caller with room for any listing reads back
 pub text-back : (s out out′ : List ℕ) (n : ℕ) → length out ≡ longest → n ≡ listCount s (length out) → out′ ≡ listResult s out
@@ -85,7 +81,7 @@ unfolding listNumber listCount listResult
 text-back s out out′ n l e w =
     let t : leb longest (length out) ≡ true = le-leb longest (length out) (omega arith) in
     let count : n ≡ length (text s) = rw t at e in
-    let whole : out′ ≡ text s ++ drop (0 + length (text s)) out = (rw t at w) ∙ sets-eq (text s) out 0 (omega (arith, text-long s)) in
+    let whole : out′ ≡ text s ++ drop (0 + length (text s)) out = (rw t at w) ∙ sets-eq (text s) out 0 (omega (arith, none-longer s)) in
     let first : take n out′ ≡ text s = ap (take n) whole ∙ take-at (text s) (drop (0 + length (text s)) out) n (sym count) in (
       count,
       first,

@@ -32,6 +32,9 @@ pub record Rest (o₀ o : List ℕ) (at p : ℕ) (all rest : List ℕ) : Type 0 
   pub written : sets o p rest ≡ sets o₀ at all
   pub behind : p + length rest ≡ at + length all
 
+pub rest-all : {o all rest : List ℕ} {at p : ℕ} → p ≡ at → rest ≡ all → Rest o o at p all rest
+rest-all e q = rw (e, q) (record { written = refl; behind = refl })
+
 pub rest-then : {o₀ o o′ all rest u v : List ℕ} {at p q : ℕ} → Rest o₀ o at p all rest → rest ≡ u ++ v → Wrote o p u o′ q → Rest o₀ o′ at q all v
 rest-then {o₀} {o} {o′} {all} {rest} {u} {v} {at} {p} {q} g e w =
     record {

@@ -1,3 +1,4 @@
 pub mod Text
+pub mod Laws
+pub mod Example
 pub mod Wrote
-pub mod Heard

@@ -9,7 +9,8 @@ use Rattle.line.specs.Refusal.{need, accepted}
 use Rattle.scrambler.specs.Scramble.{Datum, unsettled, settled}
 use Rattle.receiver.specs.declared.Receiver.{Receiver}
 use Rattle.receiver.specs.Receiver.{freshReceiver, Answer, refused, reference, decoded, lost, answer, next}
-use Rattle.receiver.specs.Receiver.{Event as Heard, point as hears, gap}
+use Rattle.receiver.specs.Receiver.{Event as Call, gap}
+use Rattle.receiver.specs.Receiver.{point as pointCall}
 use Rattle.store.specs.Layout.{Event, point, rec}
 use Rattle.store.specs.Layout.{lost as lostFor}
 use Rattle.store.specs.Store.{events, total, refusal}
@@ -66,8 +67,8 @@ glyphs ds = map glyph ds
 abbrev pub lineGlyphs : List ℕ → List ℕ
 lineGlyphs bs = map (λ (b : ℕ). glyph (settled b)) bs
 
--- kind, and bits (line, then data) or count; nothing for a refused event, which an accepted store does not hold (`none-refused` of
--- proofs/Heards)
+-- kind, and bits (line, then data) or count; nothing for a refused event, which an accepted store does not hold (`NoneRefused` of
+-- specs/Laws)
 unfoldable pub kindText : Answer → List ℕ
 kindText (refused n) = []
 kindText reference = ref
@@ -78,19 +79,15 @@ kindText (lost n) = lostAre ++ decimal n
 unfoldable pub lineText : ℕ → Answer → List ℕ
 lineText place a = decimal place ++ (kindText a ++ lineEnd)
 
--- a store's event as a receiver takes it
-abbrev pub taken : Event → Heard
-taken (point p) = hears p
+-- a store's event as the call that a receiver takes
+abbrev pub taken : Event → Call
+taken (point p) = pointCall p
 taken (lostFor n) = gap n
 
--- a line for each event, and the receiver after them
-abbrev pub lines : Receiver → List Event → List ℕ
+-- a line for each call, in the state that the ones before it left
+abbrev pub lines : Receiver → List Call → List ℕ
 lines s [] = []
-lines s (e ∷ es) = lineText (s .place .0) (answer s (taken e)) ++ lines (next s (taken e)) es
-
-abbrev pub through : Receiver → List Event → Receiver
-through s [] = s
-through s (e ∷ es) = through (next s (taken e)) es
+lines s (e ∷ es) = lineText (s .place .0) (answer s e) ++ lines (next s e) es
 
 -- THE LISTING
 
@@ -100,7 +97,7 @@ firstLine m role t = trackMode ++ (decimal m ++ (itsRole ++ (decimal role ++ (it
 
 -- a chain's listing: its first line, and the events as a fresh receiver hears them
 unfoldable pub chainText : ℕ → ℕ → ℕ → List Event → List ℕ
-chainText m role t es = firstLine m role t ++ lines (freshReceiver m role) es
+chainText m role t es = firstLine m role t ++ lines (freshReceiver m role) (map taken es)
 
 unfoldable pub refusedLine : ℕ → List ℕ
 refusedLine n = refusedBy ++ (decimal n ++ lineEnd)
@@ -115,8 +112,9 @@ roleIn s = getD (rec s 0) 5 0
 unfoldable pub text : List ℕ → List ℕ
 text s = accepted (refusal s) (chainText (modeIn s) (roleIn s) (total s) (events s)) (refusedLine (refusal s))
 
--- a buffer that holds any listing: the longest first line, and 2,047 records of seven lines with bits. That no text is longer is
--- the law `text-long` of proofs/Lengths.
+-- a buffer that holds any listing: 37 bytes for the first line and 26 for each of seven lines of 2,047 records (`NoneLonger` of
+-- specs/Laws). The lent bytes are judged by it and not by the text's own length, which is known only when the receiver has taken
+-- every event, and it would have to take them again to write; and so a caller knows before the call what to lend.
 abbrev pub longest : ℕ
 longest = 372591
 

@@ -12,19 +12,20 @@ use Rattle.scrambler.specs.Bits.{bits}
 use Rattle.scrambler.specs.Group.{marked}
 use Rattle.receiver.specs.declared.Receiver.{Receiver}
 use Rattle.receiver.specs.Receiver.{Answer, reference, decoded, lost}
-use Rattle.store.specs.Layout.{Event}
+use Rattle.receiver.specs.Receiver.{Event as Call}
+use Rattle.receiver.specs.Calls.{after}
 use Rattle.listing.specs.declared.Progress.{Progress}
-use Rattle.listing.specs.Text.{lineText, lines, through}
+use Rattle.listing.specs.Text.{lineText, lines}
 
 -- the bytes vs stand in the buffer from `at` on, and `after` is the place behind them
 pub record Wrote (out : List ℕ) (at : ℕ) (vs out′ : List ℕ) (after : ℕ) : Type 0 where
   pub written : out′ ≡ sets out at vs
   pub behind : after ≡ at + length vs
 
--- the lines of events that a receiver in state s heard
-pub record Went (out : List ℕ) (at : ℕ) (s : Receiver) (es : List Event) (out′ : List ℕ) (r : Progress) : Type 0 where
+-- the lines of the calls that a receiver in state s took, and its state after them
+pub record Went (out : List ℕ) (at : ℕ) (s : Receiver) (es : List Call) (out′ : List ℕ) (r : Progress) : Type 0 where
   pub wrote : Wrote out at (lines s es) out′ (r .at)
-  pub state : r .state ≡ through s es
+  pub state : r .state ≡ after s es
 
 -- the n signed numbers that stand in bytes one after the other
 unfoldable pub numbersIn : List ℕ → ℕ → List ℤ

@@ -13,16 +13,17 @@ use receiver::Reference;
 use receiver::receive_gap;
 ghost use mathlib.Core.Path.{_≡_};
 ghost use mathlib.Core.Bool.{true, cond};
+ghost use mathlib.Core.List.{map};
 ghost use Prim.Native.Nat.{_+_, _*_, _-_, _/_, _%_, _^_, _≤_, _<_};
 ghost use lib.Dec.{ltb};
 ghost use lib.ListN.{length, drop};
 ghost use Rattle.scrambler.specs.Bits.{bits};
 ghost use Rattle.scrambler.specs.Group.{marked};
 ghost use Rattle.receiver.specs.Receiver.{freshReceiver, lost};
+ghost use Rattle.receiver.specs.Calls.{EachAccepted};
 ghost use Rattle.store.specs.Layout.{rec, points, recordOk, eventsOf};
 ghost use Rattle.store.specs.Store.{events, total, refusal};
-ghost use Rattle.listing.specs.Text.{decimal, glyphs, lineText, lines, firstLine, refusedLine, text, listNumber, listCount, listResult};
-ghost use Rattle.listing.specs.Heard.{AllTaken};
+ghost use Rattle.listing.specs.Text.{decimal, glyphs, lineText, taken, lines, firstLine, refusedLine, text, listNumber, listCount, listResult};
 ghost use Rattle.listing.specs.Wrote.{Wrote, Went, byteAnswer, byteLines, numbersIn};
 
 // Bytes enough for the listing of any store.
@@ -161,8 +162,8 @@ fn numbers_of(r: &[u8]) -> [i16; 14]
 
 // The first n points of a record, taken at once. A refusal is ruled out: an accepted store holds no event that is refused.
 fn put_points(r: &[u8], n: usize, out: &mut [u8], from: Progress) -> Progress
-    requires { ⌜ (1 ≤ n) × (n ≤ 7) × AllTaken (from .state) (points (drop 4 (now r)) n) × (from .at ≤ 500000) ⌝ }
-    ensures { λ p. ⌜ Went (now (out .entry)) (from .at) (from .state) (points (drop 4 (now (r .entry))) n) (now (out .exit)) p ⌝ }
+    requires { ⌜ (1 ≤ n) × (n ≤ 7) × EachAccepted (from .state) (map taken (points (drop 4 (now r)) n)) × (from .at ≤ 500000) ⌝ }
+    ensures { λ p. ⌜ Went (now (out .entry)) (from .at) (from .state) (map taken (points (drop 4 (now (r .entry))) n)) (now (out .exit)) p ⌝ }
 {
     let s = from.state;
     let numbers = numbers_of(r);
@@ -182,8 +183,8 @@ fn put_points(r: &[u8], n: usize, out: &mut [u8], from: Progress) -> Progress
 
 // The events of a record. A loss is answered as a gap: that it is refused is ruled out as well.
 fn put_record(r: &[u8], out: &mut [u8], from: Progress) -> Progress
-    requires { ⌜ (recordOk (now r) ≡ true) × AllTaken (from .state) (eventsOf (now r)) × (from .at ≤ 500000) ⌝ }
-    ensures { λ p. ⌜ Went (now (out .entry)) (from .at) (from .state) (eventsOf (now (r .entry))) (now (out .exit)) p ⌝ }
+    requires { ⌜ (recordOk (now r) ≡ true) × EachAccepted (from .state) (map taken (eventsOf (now r))) × (from .at ≤ 500000) ⌝ }
+    ensures { λ p. ⌜ Went (now (out .entry)) (from .at) (from .state) (map taken (eventsOf (now (r .entry)))) (now (out .exit)) p ⌝ }
 {
     if get8(r, 2) == 1 {
         return put_points(r, get8(r, 3), out, from);
@@ -210,8 +211,8 @@ fn record_at(s: &[u8], i: usize) -> &[u8]
 
 // The events of an accepted store's chain; the place behind them.
 fn put_chain(s: &[u8], out: &mut [u8], at: usize, state: Receiver) -> usize
-    requires { ⌜ (refusal (now s) ≡ 0) × AllTaken state (events (now s)) × (at + length (lines state (events (now s))) ≤ 500000) ⌝ }
-    ensures { λ r. ⌜ Wrote (now (out .entry)) at (lines state (events (now (s .entry)))) (now (out .exit)) r ⌝ }
+    requires { ⌜ (refusal (now s) ≡ 0) × EachAccepted state (map taken (events (now s))) × (at + length (lines state (map taken (events (now s)))) ≤ 500000) ⌝ }
+    ensures { λ r. ⌜ Wrote (now (out .entry)) at (lines state (map taken (events (now (s .entry))))) (now (out .exit)) r ⌝ }
 {
     let mut p = Progress { at, state };
     let mut k: usize = 0;

@@ -34,7 +34,7 @@ returns-3 : tie.Need-returns-3
 returns-3 c =
     let a = c .before .before .before .before .before .before .before .before .before .before .args in
     list-done (now (a .store)) (now (a .out)) _ _ (c .before .before .before .before .before .before .before .if1 .left)
-    (wrote-as (refused-text (now (a .store)) (now (a .out)) _ (c .before .before .before .before .before .before .inspect .ensures .number) (c .before .before .before .before .if2 .left)) (c .before .before .put-refused .ensures))
+    (wrote-as (refused-text (now (a .store)) _ (c .before .before .before .before .before .before .inspect .ensures .number) (c .before .before .before .before .if2 .left)) (c .before .before .put-refused .ensures))
 
 pub list-spec : {M : Type 1} → statement M
 list-spec =

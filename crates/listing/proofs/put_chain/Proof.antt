@@ -57,7 +57,7 @@ loop-again c =
     (rw (c .before .before .before .before .before .record-at .ensures) at (c .before .before .before .put-record .ensures))
 
 same-length : tie.Need-same-length Inv-loop μ-loop
-same-length c = c .before .loop .inv .rest .long
+same-length c = c .before .loop .inv .long
 
 returns : tie.Need-returns Inv-loop μ-loop
 returns c = listing-end _ _ _ _ _ (c .before .loop .p) _ _ (c .before .loop .inv) (c .loop-test .left)

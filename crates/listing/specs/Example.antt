@@ -1,0 +1,26 @@
+-- Document 01, "Listing program": its example, from the store's bytes to the five lines.
+use mathlib.Core.Path.{_≡_}
+use mathlib.Core.List.{List, [], _∷_, _++_}
+use Prim.Native.Nat.{ℕ}
+use lib.ListN.{replicate}
+use Rattle.listing.specs.Text.{text}
+
+-- a mode 1 store of (4096, 0), (0, 4096), lost 3, (−4096, 0)
+abbrev pub store : List ℕ
+store =
+    (86 ∷ 83 ∷ 89 ∷ 77 ∷ 1 ∷ 0 ∷ 1 ∷ 0 ∷ 6 ∷ replicate 23 0)
+    ++ (2 ∷ 0 ∷ 1 ∷ 2 ∷ 0 ∷ 16 ∷ 0 ∷ 0 ∷ 0 ∷ 0 ∷ 0 ∷ 16 ∷ replicate 20 0)
+    ++ (3 ∷ 0 ∷ 2 ∷ 0 ∷ 3 ∷ replicate 27 0)
+    ++ (0 ∷ 0 ∷ 1 ∷ 1 ∷ 0 ∷ 240 ∷ replicate 26 0)
+
+-- "track mode 1 role 0 total 6", "0 ref", "1 bits 01 --", "2 lost 3", "5 ref"
+abbrev pub listed : List ℕ
+listed =
+    (116 ∷ 114 ∷ 97 ∷ 99 ∷ 107 ∷ 32 ∷ 109 ∷ 111 ∷ 100 ∷ 101 ∷ 32 ∷ 49 ∷ 32 ∷ 114 ∷ 111 ∷ 108 ∷ 101 ∷ 32 ∷ 48 ∷ 32 ∷ 116 ∷ 111 ∷ 116 ∷ 97 ∷ 108 ∷ 32 ∷ 54 ∷ 10 ∷ [])
+    ++ (48 ∷ 32 ∷ 114 ∷ 101 ∷ 102 ∷ 10 ∷ [])
+    ++ (49 ∷ 32 ∷ 98 ∷ 105 ∷ 116 ∷ 115 ∷ 32 ∷ 48 ∷ 49 ∷ 32 ∷ 45 ∷ 45 ∷ 10 ∷ [])
+    ++ (50 ∷ 32 ∷ 108 ∷ 111 ∷ 115 ∷ 116 ∷ 32 ∷ 51 ∷ 10 ∷ [])
+    ++ (53 ∷ 32 ∷ 114 ∷ 101 ∷ 102 ∷ 10 ∷ [])
+
+abbrev pub FiveLines : Type 0
+FiveLines = text store ≡ listed
