@@ -19,7 +19,7 @@ use Rattle.deciding.specs.Decide.{decide}
 use Rattle.deciding.specs.Sizes.{ringOf, ringIndex}
 use Rattle.coding.specs.Code.{group}
 use Rattle.coding.specs.Rows.{rowIndex, withRow, Rows}
-use Rattle.coding.proofs.DecideLaws.{Off}
+use Rattle.deciding.proofs.DecideLaws.{Off}
 use Rattle.coding.proofs.RowLaws.{looked-up as row-looked-up}
 use Rattle.line.specs.Refusal.{need, accepted}
 use Rattle.line.proofs.RefusalLaws.{need-met, need-rest, need-intro, next-first, next-rest, or-some}
