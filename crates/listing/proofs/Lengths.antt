@@ -1,6 +1,6 @@
 -- No listing is longer than `longest`. Assumes nothing.
 use mathlib.Core.Path.{_≡_, refl, ap}
-use mathlib.Core.Bool.{true, false, _&&_}
+use mathlib.Core.Bool.{true}
 use mathlib.Core.List.{List, [], _∷_, _++_, map, map-append}
 use Prim.Native.Nat.{ℕ, zero, suc, _+_, _*_, _≤_, _<_}
 use native.Mathlib.Omega.{arith}
@@ -15,7 +15,7 @@ use Rattle.deciding.specs.Decide.{decide}
 use Rattle.coding.specs.Code.{group}
 use Rattle.line.specs.Refusal.{accepted}
 use Rattle.line.proofs.ByMode.{by-all, width-range}
-use Rattle.octets.specs.Number.{u32, zeros}
+use Rattle.octets.specs.Number.{u32}
 use Rattle.octets.proofs.Tests.{by-test, and-split}
 use Rattle.scrambler.specs.Scramble.{Datum, descramble}
 use Rattle.scrambler.proofs.BitLaws.{length-bits}
@@ -27,9 +27,9 @@ use Rattle.receiver.specs.Receiver.{freshReceiver, Answer, refused, lineBits, s
 use Rattle.receiver.specs.Receiver.{gap, next, Event as Call, lost as lostAnswer, point as pointCall, refusal as eventRefused}
 use Rattle.receiver.specs.Calls.{after}
 use Rattle.store.specs.Chain.{gather}
-use Rattle.store.specs.Layout.{Event, lost, count, rec, held, isPoints, pointAt, points, recordOk, eventsOf}
+use Rattle.store.specs.Layout.{count, rec, held, isPoints, pointAt, points, recordOk, eventsOf}
 use Rattle.store.specs.Layout.{next as nextIn}
-use Rattle.store.specs.Store.{chain, events, total, headOk, hasMark, refusal}
+use Rattle.store.specs.Store.{chain, events, total, headOk, refusal}
 use Rattle.store.proofs.Chains.{All, run-short}
 use Rattle.store.proofs.Sounds.{accepted-sound}
 use Rattle.listing.specs.Text.{decimal, glyphs, lineGlyphs, bitsAre, blank, kindText, lineText, taken, lines, firstLine, chainText, refusedLine, modeIn, roleIn, text, longest}
