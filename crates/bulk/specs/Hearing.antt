@@ -6,14 +6,31 @@ use lib.IntN.{ℤ}
 use lib.ListN.{length, drop}
 use lib.Seq.{sets}
 use Rattle.line.specs.declared.Point.{Point}
-use Rattle.line.specs.Mode.{capacity}
+use Rattle.line.specs.Mode.{capacity, face}
 use Rattle.line.specs.Point.{pairs}
+use Rattle.coding.specs.Code.{group}
+use Rattle.scrambler.specs.declared.Descrambled.{Descrambled}
 use Rattle.scrambler.specs.Register.{register}
-use Rattle.receiver.specs.declared.Reference.the-variants.{State as some}
+use Rattle.scrambler.specs.Group.{descrambled}
+use Rattle.receiver.specs.declared.Reference.{Reference}
+use Rattle.receiver.specs.declared.Reference.the-variants.{Nothing as none, State as some}
 use Rattle.receiver.specs.declared.Receiver.{Receiver}
-use Rattle.receiver.specs.Receiver.{receiver, point}
-use Rattle.receiver.specs.Calls.{after}
-use Rattle.bulk.specs.Block.{lineByte, plainByte, outcomes, EachAccepted}
+use Rattle.receiver.specs.Receiver.{receiver, point, Answer, stateNext}
+use Rattle.receiver.specs.Calls.{after, EachAccepted}
+use Rattle.bulk.specs.declared.Step.{Step}
+use Rattle.bulk.specs.Block.{lineByte, plainByte, answersTo}
+
+-- one point of a block: the bytes of its answer, and the state after it
+abbrev pub step : Answer → Receiver → Step
+step a t = record { line = lineByte a; plain = plainByte a; next = t }
+
+-- a point decided as y, as the code has it
+unfoldable pub stateStep : Receiver → Reference → ℕ → Step
+stateStep s none y = record { line = 16; plain = 0; next = stateNext s none y }
+stateStep s (some x) y =
+    let g : ℕ = group (s .mode) (face (s .mode) x) y in
+    let d : Descrambled = descrambled (s .mode) (s .role) (s .line) g in
+    record { line = g; plain = 16 * d .unsettled .0 + d .plain; next = stateNext s (some x) y }
 
 -- the points from number k on
 abbrev pub left : List ℤ → ℕ → List Point
@@ -27,10 +44,10 @@ pub record Hearing (s : Receiver) (line plain : List ℕ) (zs : List ℤ) (j : �
   pub mode-stays : t .mode ≡ s .mode
   pub line-long : length l ≡ length line
   pub plain-long : length p ≡ length plain
-  pub free : EachAccepted t (left zs k)
+  pub free : EachAccepted t (map point (left zs k))
   pub state-left : after t (map point (left zs k)) ≡ after s (map point (left zs j))
-  pub line-left : sets l k (map lineByte (outcomes t (left zs k))) ≡ sets line j (map lineByte (outcomes s (left zs j)))
-  pub plain-left : sets p k (map plainByte (outcomes t (left zs k))) ≡ sets plain j (map plainByte (outcomes s (left zs j)))
+  pub line-left : sets l k (map lineByte (answersTo t (left zs k))) ≡ sets line j (map lineByte (answersTo s (left zs j)))
+  pub plain-left : sets p k (map plainByte (answersTo t (left zs k))) ≡ sets plain j (map plainByte (answersTo s (left zs j)))
 
 -- a receiver with a reference x and a full register of bits n, i intervals after s
 abbrev pub settledAt : Receiver → ℕ → ℕ → ℕ → Receiver

@@ -7,11 +7,10 @@ ghost use lib.Seq.{sets};
 ghost use Rattle.line.specs.Point.{at, pairs};
 ghost use Rattle.deciding.specs.Sizes.{ringOf};
 ghost use Rattle.coding.specs.Rows.{Rows};
-ghost use Rattle.receiver.specs.Receiver.{receiver, point, refusal, stateNext, forgotten, next};
-ghost use Rattle.receiver.specs.Outcome.{stateOutcome, gapOutcome, outcome};
-ghost use Rattle.receiver.specs.Calls.{after};
-ghost use Rattle.bulk.specs.Hearing.{Hearing, settledAt};
-ghost use Rattle.bulk.specs.Block.{lineByte, plainByte, outcomes, EachAccepted, blockRefusal, Told, block, lineBytes, plainBytes, step};
+ghost use Rattle.receiver.specs.Receiver.{receiver, point, lost, refusal, answer, forgotten, next};
+ghost use Rattle.receiver.specs.Calls.{after, EachAccepted};
+ghost use Rattle.bulk.specs.Hearing.{step, stateStep, Hearing, settledAt};
+ghost use Rattle.bulk.specs.Block.{lineByte, plainByte, answersTo, blockRefusal, Told, block, lineBytes, plainBytes};
 use receiver::Intervals;
 use receiver::Receiver;
 use receiver::Reference;
@@ -48,7 +47,7 @@ fn moved(s: Receiver, reference: Reference, line: Register) -> Receiver
 // A point decided as the state y.
 fn take(rows: &[u8; 16], s: Receiver, y: u8) -> Step
     requires { ⌜ Rows (s .mode) (now rows) × (s .place .0 < 4294967295) ⌝ }
-    ensures { λ r. ⌜ r ≡ step (stateOutcome s (s .reference) y) (stateNext s (s .reference) y) ⌝ }
+    ensures { λ r. ⌜ r ≡ stateStep s (s .reference) y ⌝ }
 {
     let reference = s.reference;
     let h = s.line;
@@ -75,7 +74,7 @@ fn take(rows: &[u8; 16], s: Receiver, y: u8) -> Step
 // The origin: a gap of one interval.
 fn lose(s: Receiver) -> Step
     requires { ⌜ s .place .0 < 4294967295 ⌝ }
-    ensures { λ r. ⌜ r ≡ step (gapOutcome s 1) (forgotten s 1) ⌝ }
+    ensures { λ r. ⌜ r ≡ step (lost 1) (forgotten s 1) ⌝ }
 {
     let line = scrambler::fresh_register();
     let next = moved(s, Reference::Nothing, line);
@@ -89,7 +88,7 @@ fn lose(s: Receiver) -> Step
 // A point that nothing refuses, so that it is the origin or in a sector.
 fn hear(ring: &[u8; 16], rows: &[u8; 16], s: Receiver, re: i16, im: i16) -> Step
     requires { ⌜ (now ring ≡ ringOf (s .mode)) × Rows (s .mode) (now rows) × (refusal s (point (at re im)) ≡ 0) ⌝ }
-    ensures { λ r. ⌜ r ≡ step (outcome s (point (at re im))) (next s (point (at re im))) ⌝ }
+    ensures { λ r. ⌜ r ≡ step (answer s (point (at re im))) (next s (point (at re im))) ⌝ }
 {
     if deciding::is_origin(re, im) {
         return lose(s);
@@ -193,10 +192,10 @@ fn hear_on(
 
 // Points that nothing refuses: one, then those after it whose data bits are settled, and so on.
 fn hear_all(s: Receiver, points: &[i16], line: &mut [u8], plain: &mut [u8]) -> Receiver
-    requires { ⌜ EachAccepted s (pairs (now points)) × (length (now points) / 2 ≤ length (now line)) × (length (now points) / 2 ≤ length (now plain)) ⌝ }
+    requires { ⌜ EachAccepted s (map point (pairs (now points))) × (length (now points) / 2 ≤ length (now line)) × (length (now points) / 2 ≤ length (now plain)) ⌝ }
     ensures { λ r. ⌜ (r ≡ after s (map point (pairs (now (points .entry)))))
-        × (now (line .exit) ≡ sets (now (line .entry)) 0 (map lineByte (outcomes s (pairs (now (points .entry))))))
-        × (now (plain .exit) ≡ sets (now (plain .entry)) 0 (map plainByte (outcomes s (pairs (now (points .entry)))))) ⌝ }
+        × (now (line .exit) ≡ sets (now (line .entry)) 0 (map lineByte (answersTo s (pairs (now (points .entry))))))
+        × (now (plain .exit) ≡ sets (now (plain .entry)) 0 (map plainByte (answersTo s (pairs (now (points .entry)))))) ⌝ }
 {
     let n = points.len() / 2;
     let ring = deciding::ring_of(s.mode);

@@ -31,7 +31,7 @@ use Rattle.receiver.specs.Calls.{after}
 use Rattle.receiver.proofs.OutcomeLaws.{in-sector}
 use Rattle.bulk.specs.declared.Block.{Block}
 use Rattle.bulk.specs.declared.Block.the-variants.{Refused as NotTaken, Taken}
-use Rattle.bulk.specs.Block.{lineByte, plainByte, outcomes, blockRefusal, block, lineBytes, plainBytes}
+use Rattle.bulk.specs.Block.{lineByte, plainByte, answersTo, blockRefusal, block, lineBytes, plainBytes}
 use Rattle.octets.specs.Number.{u32, le32}
 use Rattle.lent_receiver.specs.Receiving.{referenceIn, receiverIn, present, stateByte, receiverOut, answerBytes, answerOut, holdsState, holdsAnswer, freshNumber, freshState, atMost7, callNumber, callState, callAnswer, blockNumber, blockState, blockLine, blockPlain, numberOut, stateAfter, answerAfter, handedNumber, handedState, handedAnswer}
 
@@ -240,8 +240,8 @@ module _ (state : List ℕ) (zs : List ℤ) (l p : List ℕ) where
             z,
             u ∙ ap (λ (r : Receiver). sets state 0 (receiverOut r)) (w .1 ∙ ap (λ (r : Receiver). after r (map point (pairs zs))) e)
                 ∙ ap (λ (k : ℕ). accepted k (sets state 0 (receiverOut (after (receiverIn state) (map point (pairs zs))))) state) z,
-            q .1 ∙ ap₂ (λ (k : ℕ) (r : Receiver). accepted k (sets l 0 (map lineByte (outcomes r (pairs zs)))) l) (w .0 ∙ z) e,
-            q .2 ∙ ap₂ (λ (k : ℕ) (r : Receiver). accepted k (sets p 0 (map plainByte (outcomes r (pairs zs)))) p) (w .0 ∙ z) e,
+            q .1 ∙ ap₂ (λ (k : ℕ) (r : Receiver). accepted k (sets l 0 (map lineByte (answersTo r (pairs zs)))) l) (w .0 ∙ z) e,
+            q .2 ∙ ap₂ (λ (k : ℕ) (r : Receiver). accepted k (sets p 0 (map plainByte (answersTo r (pairs zs)))) p) (w .0 ∙ z) e,
           )
 
 -- MAKING A RECEIVER

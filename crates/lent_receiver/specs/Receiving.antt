@@ -22,7 +22,7 @@ use Rattle.line.specs.Refusal.{modeRefusal}
 use Rattle.receiver.specs.Receiver.{Event, point, receiver, freshReceiver, refusal, next}
 use Rattle.receiver.specs.Outcome.{outcome}
 use Rattle.receiver.specs.Calls.{after}
-use Rattle.bulk.specs.Block.{lineByte, plainByte, outcomes, blockRefusal}
+use Rattle.bulk.specs.Block.{lineByte, plainByte, answersTo, blockRefusal}
 
 -- THE BYTES OF A STATE
 
@@ -102,10 +102,10 @@ blockState state zs l p =
     accepted (blockNumber state zs l p) (sets state 0 (receiverOut (after (receiverIn state) (map point (pairs zs))))) state
 
 unfoldable pub blockLine : List ℕ → List ℤ → List ℕ → List ℕ → List ℕ
-blockLine state zs l p = accepted (blockNumber state zs l p) (sets l 0 (map lineByte (outcomes (receiverIn state) (pairs zs)))) l
+blockLine state zs l p = accepted (blockNumber state zs l p) (sets l 0 (map lineByte (answersTo (receiverIn state) (pairs zs)))) l
 
 unfoldable pub blockPlain : List ℕ → List ℤ → List ℕ → List ℕ → List ℕ
-blockPlain state zs l p = accepted (blockNumber state zs l p) (sets p 0 (map plainByte (outcomes (receiverIn state) (pairs zs)))) p
+blockPlain state zs l p = accepted (blockNumber state zs l p) (sets p 0 (map plainByte (answersTo (receiverIn state) (pairs zs)))) p
 
 -- WHAT THE CODE DOES WITH AN OUTCOME
 

@@ -1,20 +1,19 @@
 -- The points of a record, taken by one block: its numbers are the points, and its bytes are their lines. Assumes nothing.
 use mathlib.Core.Path.{_≡_, refl, sym, ap, ap₂, _∙_, subst}
 use mathlib.Core.List.{List, [], _∷_, _++_, map}
-use Prim.Native.Nat.{ℕ, zero, suc, _+_, _*_, _-_, _/_, _%_, _≤_, _<_}
+use Prim.Native.Nat.{ℕ, zero, suc, _+_, _*_, _-_, _^_, _/_, _%_, _≤_, _<_}
 use native.Mathlib.Omega.{arith}
 use borrow.Author.Tests.{ne-eqb, eq-eqb, le-leb}
-use lib.Dec.{T, eqb}
+use lib.Dec.{T}
 use lib.IntN.{ℤ}
-use lib.ListN.{length, getD, set, take, drop, drop-of-length-le}
+use lib.ListN.{length, getD, set, take, drop, drop-of-length-le, length-map}
+use lib.Pow.{pow-mono}
 use lib.Seq.{sets, sets-eq, take-at, drop-cons, drop-drop}
 use Rattle.line.specs.declared.Point.{Point}
-use Rattle.line.specs.Table.{entry}
-use Rattle.line.specs.Mode.{width, quadrant, face}
+use Rattle.line.specs.Mode.{width, face}
 use Rattle.line.specs.Point.{at, pairs}
 use Rattle.line.specs.Refusal.{accepted}
-use Rattle.line.proofs.ByMode.{by-all}
-use Rattle.line.proofs.TableLaws.{row-below}
+use Rattle.line.proofs.ByMode.{width-range}
 use Rattle.line.proofs.PointLaws.{pairs-length}
 use Rattle.line.proofs.RefusalLaws.{next-rest}
 use Rattle.octets.specs.Number.{u16, i16, signed}
@@ -23,24 +22,22 @@ use Rattle.octets.proofs.Sets.{sets-whole}
 use Rattle.deciding.specs.declared.Decision.{Decision}
 use Rattle.deciding.specs.declared.Decision.the-variants.{State, Origin, NoSector}
 use Rattle.deciding.specs.Decide.{decide}
-use Rattle.coding.specs.Code.{changes4, changes8, changes16, eighths, turnRow, group}
-use Rattle.scrambler.specs.Bits.{bits}
+use Rattle.coding.specs.Code.{group}
+use Rattle.scrambler.specs.Bits.{bits, value}
 use Rattle.scrambler.specs.Group.{descrambled, marked}
-use Rattle.scrambler.proofs.GroupLaws.{descrambled-small}
+use Rattle.scrambler.proofs.BitLaws.{length-bits, bits-are, value-small, bits-value}
+use Rattle.scrambler.proofs.GroupLaws.{group-read, descrambled-small}
 use Rattle.receiver.specs.declared.Reference.{Reference}
 use Rattle.receiver.specs.declared.Reference.the-variants.{Nothing as none, State as some}
 use Rattle.receiver.specs.declared.Receiver.{Receiver}
-use Rattle.receiver.specs.declared.Outcome.{Outcome}
-use Rattle.receiver.specs.declared.Outcome.the-variants.{Refused}
-use Rattle.receiver.specs.Receiver.{Answer, decoded, stateRefusal, inSector, answer, next}
-use Rattle.receiver.specs.Receiver.{Event as Call, point, refusal as refused}
-use Rattle.receiver.specs.Outcome.{answerOf, groupOf, stateOutcome, pointOutcome, eventOutcome, outcome}
-use Rattle.receiver.specs.Calls.{after, EachAccepted}
-use Rattle.receiver.proofs.OutcomeLaws.{told, in-sector}
-use Rattle.receiver.proofs.CallLaws.{no-refusal, accepted-valid, same-next}
+use Rattle.receiver.specs.Receiver.{Answer, decoded, stateRefusal, inSector, stateAnswer, pointAnswer, eventAnswer, answer, next}
+use Rattle.receiver.specs.Receiver.{Event as Call, point, refused, refusal}
+use Rattle.receiver.specs.Calls.{after, EachAccepted, Heard, answers}
+use Rattle.receiver.proofs.OutcomeLaws.{in-sector}
+use Rattle.receiver.proofs.CallLaws.{no-refusal, accepted-valid, same-next, heard-accepted, heard-all}
 use Rattle.bulk.specs.declared.Block.{Block}
 use Rattle.bulk.specs.declared.Block.the-variants.{Refused as NotTaken, Taken}
-use Rattle.bulk.specs.Block.{lineByte, plainByte, outcomes, EachAccepted as PointsAccepted, lentOk, blockRefusal, block, lineBytes, plainBytes}
+use Rattle.bulk.specs.Block.{lineByte, plainByte, answersTo, lentOk, blockRefusal, block, lineBytes, plainBytes}
 use Rattle.bulk.proofs.BlockLaws.{has-place, each-has-place, at-once}
 use Rattle.store.specs.Layout.{points}
 use Rattle.listing.specs.Text.{lineText, taken, lines}
@@ -101,61 +98,49 @@ pub lines-end : (w place : ℕ) (ls ps : List ℕ) (k : ℕ) → length ls ≤ k
 lines-end w place ls ps k h = ap (λ (l : List ℕ). byteLines w (place + k) l (drop k ps)) (drop-of-length-le ls h)
 
 -- ---- what a point's two bytes say
-group-small : (m q y : ℕ) → group m q y < 16
-unfolding group turnRow
-group-small m q y =
-    let a = row-below (λ g. eqb (entry changes4 g) (eighths q y / 2)) 0 3 in
-    let b = row-below (λ g. eqb (entry changes8 g) (eighths q y)) 0 7 in
-    let c = row-below (λ g. eqb (entry changes16 (4 * g + quadrant q)) (quadrant y)) 0 3 in
-    let d = row-below (λ g. eqb (entry changes16 (4 * g + q % 4)) (quadrant y)) 0 3 in
-    by-all (λ (g : ℕ). g < 16) _ _ _ _ (omega arith) (omega arith) (omega arith) (omega arith) m
-
 module _ (s : Receiver) where
-  abbrev Says : Outcome → Type 0
-  Says o = byteAnswer (width (s .mode)) (lineByte o) (plainByte o) ≡ answerOf (width (s .mode)) o
+  abbrev Says : Answer → Type 0
+  Says a = byteAnswer (width (s .mode)) (lineByte a) (plainByte a) ≡ a
 
-  state-says : (o : Reference) (y : ℕ) → Says (stateOutcome s o y)
-  unfolding byteAnswer stateOutcome groupOf
+  state-says : (o : Reference) (y : ℕ) → Says (stateAnswer s o y)
+  unfolding byteAnswer stateAnswer descrambled
   state-says none y = refl
   state-says (some x) y =
+      let w : ℕ = width (s .mode) in
       let g : ℕ = group (s .mode) (face (s .mode) x) y in
+      let v : ℕ = value (bits w g) in
       let d = descrambled (s .mode) (s .role) (s .line) g in
-      let h = group-small (s .mode) (face (s .mode) x) y in
+      let n = length-bits w g in
+      let h : v < 2 ^ length (bits w g) = value-small (bits w g) (bits-are w g) in
+      let k : 2 ^ length (bits w g) ≤ 2 ^ 4 = pow-mono {j = 4} (omega (arith, n, width-range (s .mode) .1)) in
       let l = descrambled-small (s .mode) (s .role) (s .line) g in
-      rw (ne-eqb g 16 (λ e. omega arith), ne-eqb g 17 (λ e. omega arith))
-      (ap₂ (λ (i j : ℕ). decoded (bits (width (s .mode)) g) (marked i (bits (width (s .mode)) j)))
-      (let q : (16 * d .unsettled .0 + d .plain) / 16 ≡ d .unsettled .0 = omega arith in q) (let q : (16 * d .unsettled .0 + d .plain) % 16 ≡ d .plain = omega arith in q))
+      rw (ne-eqb v 16 (λ e. omega arith), ne-eqb v 17 (λ e. omega arith))
+      (ap₂ decoded (ap (λ (i : ℕ). bits i v) (sym n) ∙ bits-value (bits w g) (bits-are w g))
+      (ap₂ (λ (i j : ℕ). marked i (bits w j)) (let q : (16 * d .unsettled .0 + d .plain) / 16 ≡ d .unsettled .0 = omega arith in q)
+      (let q : (16 * d .unsettled .0 + d .plain) % 16 ≡ d .plain = omega arith in q) ∙ group-read (s .mode) (s .role) (s .line) g))
 
-  point-says : (d : Decision) → T (inSector d) → Says (pointOutcome s d)
-  unfolding byteAnswer pointOutcome
+  point-says : (d : Decision) → T (inSector d) → Says (pointAnswer s d)
+  unfolding byteAnswer pointAnswer
   point-says (State y) t = state-says (s .reference) y
   point-says Origin t = refl
   point-says NoSector t = absurd t
 
-  byte-answer : (p : Point) → refused s (point p) ≡ 0 → byteAnswer (width (s .mode)) (lineByte (outcome s (point p))) (plainByte (outcome s (point p))) ≡ answer s (point p)
-  unfolding outcome eventOutcome refused
+  byte-answer : (p : Point) → refusal s (point p) ≡ 0 → Says (answer s (point p))
+  unfolding answer eventAnswer refusal
   byte-answer p z =
-      subst Says (ap (λ (n : ℕ). accepted n (pointOutcome s (decide (s .mode) p)) (Refused n)) (sym z)) (point-says (decide (s .mode) p) (in-sector s p (next-rest (stateRefusal s) _ z)))
-      ∙ told s (point p) .answer-is
+      subst Says (ap (λ (n : ℕ). accepted n (pointAnswer s (decide (s .mode) p)) (refused n)) (sym z)) (point-says (decide (s .mode) p) (in-sector s p (next-rest (stateRefusal s) _ z)))
 
 bytes-lines : (s : Receiver) (ps : List Point) → EachAccepted s (map point ps)
-    → byteLines (width (s .mode)) (s .place .0) (map lineByte (outcomes s ps)) (map plainByte (outcomes s ps)) ≡ lines s (map point ps)
+    → byteLines (width (s .mode)) (s .place .0) (map lineByte (answersTo s ps)) (map plainByte (answersTo s ps)) ≡ lines s (map point ps)
 bytes-lines s [] f = refl
 bytes-lines s (p ∷ ps) f =
     let t : Receiver = next s (point p) in
-    ap₂ (λ (a : Answer) (l : List ℕ). lineText (s .place .0) a ++ l) (byte-answer s p (f .0))
-    (ap₂ (λ (w place : ℕ). byteLines w place (map lineByte (outcomes t ps)) (map plainByte (outcomes t ps))) (ap width (sym (same-next s (point p) .0))) (sym (placed s (point p) (f .0)))
+    ap (λ (xs : List Heard). byteLines (width (s .mode)) (s .place .0) (map lineByte (answers xs)) (map plainByte (answers xs))) (heard-accepted s (point p) (map point ps) (f .0))
+    ∙ ap₂ (λ (a : Answer) (l : List ℕ). lineText (s .place .0) a ++ l) (byte-answer s p (f .0))
+    (ap₂ (λ (w place : ℕ). byteLines w place (map lineByte (answersTo t ps)) (map plainByte (answersTo t ps))) (ap width (sym (same-next s (point p) .0))) (sym (placed s (point p) (f .0)))
     ∙ bytes-lines t ps (f .1))
 
 -- ---- the block
-points-accepted : (s : Receiver) (ps : List Point) → EachAccepted s (map point ps) → PointsAccepted s ps
-points-accepted s [] a = tt
-points-accepted s (p ∷ ps) a = (a .0, points-accepted (next s (point p)) ps (a .1))
-
-outcomes-long : (f : Outcome → ℕ) (s : Receiver) (ps : List Point) → length (map f (outcomes s ps)) ≡ length ps
-outcomes-long f s [] = refl
-outcomes-long f s (p ∷ ps) = ap suc (outcomes-long f (next s (point p)) ps)
-
 first-passes : (s : Receiver) (ps : List Point) → 1 ≤ length ps → EachAccepted s (map point ps) → (stateRefusal s ≡ 0) × (s .place .0 ≤ 4294967295)
 first-passes s [] h f = absurd (omega arith)
 first-passes s (p ∷ ps) h f = (no-refusal s (accepted-valid s (point p) (f .0)), omega (arith, has-place s p (f .0)))
@@ -183,14 +168,15 @@ module _ (r : List ℕ) (n : ℕ) (s : Receiver) (numbers : List ℤ) (e : numbe
   passes = first-passes s (pairs zs) (omega (arith, pairs-long)) each-accepted
 
   pub places : s .place .0 + n ≤ 4294967295
-  places = omega (arith, each-has-place s (pairs zs) (passes .1) (points-accepted s (pairs zs) each-accepted), pairs-long)
+  places = omega (arith, each-has-place s (pairs zs) (passes .1) each-accepted, pairs-long)
 
   -- the bytes of an accepted block, as many as there are points
-  first-bytes : (f : Outcome → ℕ) (l l′ : List ℕ) (k : ℕ) → length l ≡ 7 → k ≡ 0 → l′ ≡ accepted k (sets l 0 (map f (outcomes s (pairs zs)))) l
-      → take n l′ ≡ map f (outcomes s (pairs zs))
+  first-bytes : (f : Answer → ℕ) (l l′ : List ℕ) (k : ℕ) → length l ≡ 7 → k ≡ 0 → l′ ≡ accepted k (sets l 0 (map f (answersTo s (pairs zs)))) l
+      → take n l′ ≡ map f (answersTo s (pairs zs))
   first-bytes f l l′ k el z h =
-      let vs : List ℕ = map f (outcomes s (pairs zs)) in
-      let long : length vs ≡ n = outcomes-long f s (pairs zs) ∙ pairs-long in
+      let vs : List ℕ = map f (answersTo s (pairs zs)) in
+      let heard-long = simp length-map at (ap length (heard-all s (map point (pairs zs)) each-accepted)) in
+      let long : length vs ≡ n = simp length-map (heard-long ∙ pairs-long) in
       ap (take n) (h ∙ ap (λ (i : ℕ). accepted i (sets l 0 vs) l) z ∙ sets-eq vs l 0 (omega arith)) ∙ take-at vs _ n long
 
   module _ (l p : List ℕ) (el : length l ≡ 7) (ep : length p ≡ 7) where
@@ -199,7 +185,7 @@ module _ (r : List ℕ) (n : ℕ) (s : Receiver) (numbers : List ℤ) (e : numbe
     free-block =
         let k = pairs-long in
         at-once s zs (length l) (length p) (passes .0) (passes .1)
-        (rw (eq-eqb (length zs % 2) 0 (omega (arith, zs-long)), le-leb (length (pairs zs)) (length l) (omega arith), le-leb (length (pairs zs)) (length p) (omega arith)) tt) (points-accepted s (pairs zs) each-accepted)
+        (rw (eq-eqb (length zs % 2) 0 (omega (arith, zs-long)), le-leb (length (pairs zs)) (length l) (omega arith), le-leb (length (pairs zs)) (length p) (omega arith)) tt) each-accepted
 
     is-taken : block s zs (length l) (length p) ≡ Taken (after s (map point (pairs zs)))
     unfolding block

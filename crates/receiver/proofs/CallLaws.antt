@@ -26,7 +26,7 @@ use Rattle.receiver.specs.declared.Reference.the-variants.{Nothing as no
 use Rattle.receiver.specs.declared.Receiver.{Receiver}
 use Rattle.line.specs.Refusal.{modeRefusal}
 use Rattle.receiver.specs.Receiver.{freshReceiver, Event, point, gap, isFresh, fieldsOk, stateRefusal, refusal, refused, reference, lost, lineBits, stateAnswer, pointAnswer, eventAnswer, answer, intervals, placeAfter, forgotten, stateLine, stateNext, pointNext, eventNext, next}
-use Rattle.receiver.specs.Calls.{after, Heard, heard, heardIntervals}
+use Rattle.receiver.specs.Calls.{after, EachAccepted, Heard, heard, events, heardIntervals}
 use Rattle.coding.proofs.DecideLaws.{Off, decide-off}
 use Rattle.receiver.proofs.OutcomeLaws.{next-placed}
 
@@ -165,6 +165,14 @@ place-after s (e ∷ es) =
         → accepted n (p + intervals (x .event)) p + heardIntervals xs ≡ p + heardIntervals (accepted n (x ∷ xs) xs)
     one zero p x xs = omega arith
     one (suc n) p x xs = refl
+
+-- an accepted call is heard; where no call is refused all are, in order
+pub heard-accepted : (s : Receiver) (e : Event) (es : List Event) → refusal s e ≡ 0 → heard s (e ∷ es) ≡ record { event = e; answered = answer s e } ∷ heard (next s e) es
+heard-accepted s e es z = ap (λ (n : ℕ). accepted n (record { event = e; answered = answer s e } ∷ heard (next s e) es) (heard (next s e) es)) z
+
+pub heard-all : (s : Receiver) (es : List Event) → EachAccepted s es → events (heard s es) ≡ es
+heard-all s [] f = refl
+heard-all s (e ∷ es) f = ap events (heard-accepted s e es (f .0)) ∙ ap (λ (l : List Event). e ∷ l) (heard-all (next s e) es (f .1))
 
 -- (d) mode and role stay
 abbrev pub Same : Receiver → Receiver → Type 0

@@ -16,7 +16,7 @@ use Rattle.line.specs.Point.{at, inRange}
 use Rattle.deciding.specs.Decide.{decide}
 use Rattle.coding.specs.Code.{group}
 use Rattle.line.specs.Refusal.{need, orNext, accepted}
-use Rattle.line.proofs.RefusalLaws.{need-met, need-rest, next-rest}
+use Rattle.line.proofs.RefusalLaws.{need-met, need-rest, next-rest, or-some}
 use Rattle.scrambler.specs.declared.Register.{Register}
 use Rattle.scrambler.specs.declared.Descrambled.{Descrambled}
 use Rattle.scrambler.specs.Bits.{bits}
@@ -123,18 +123,10 @@ module _ (m : ℕ) (h : Register) (o : Reference) where
   unfolding fieldsOk
   fields-some x a b is p q = rw (is, p, q)
 
--- a first refusal that is one, and one that is none
-pub or-some : (f n k : ℕ) → f ≡ n → (f ≡ 0 → ⊥) → f ≡ orNext n k
-or-some f zero k e h = absurd (h e)
-or-some f (suc n) k e h = e
-
-or-none : (f n k : ℕ) → f ≡ n → f ≡ 0 → k ≡ orNext n k
-or-none f n k e h = rw (← e, h)
-
 module _ (s : Receiver) (f : ℕ) (e : f ≡ modeRefusal (s .mode) (s .role)) where
   pub fault-early : (f ≡ 0 → ⊥) → f ≡ stateRefusal s
   unfolding stateRefusal
-  fault-early h = or-some f (modeRefusal (s .mode) (s .role)) _ e h
+  fault-early h = e ∙ or-some (modeRefusal (s .mode) (s .role)) _ (λ z. h (e ∙ z))
 
   module _ (h : f ≡ 0) (a : Bool) (p : a ≡ fieldsOk (s .mode) (s .reference) (s .line)) where
     pub fault-fields : a ≡ false → 4 ≡ stateRefusal s
@@ -184,7 +176,7 @@ last-room false r = refl
 module _ (s : Receiver) (f : ℕ) (a : f ≡ stateRefusal s) where
   pub outcome-fault : (e : Event) → (f ≡ 0 → ⊥) → Refused f ≡ outcome s e
   unfolding outcome refusal
-  outcome-fault e h = refused-by (eventOutcome s e) f (orNext (stateRefusal s) (eventRefusal s e)) (or-some f (stateRefusal s) _ a h) h
+  outcome-fault e h = refused-by (eventOutcome s e) f (orNext (stateRefusal s) (eventRefusal s e)) (a ∙ or-some (stateRefusal s) _ (λ z. h (a ∙ z))) h
 
   module _ (z : f ≡ 0) where
     pub gap-none : (n : ℕ) → n < 1 → Refused 9 ≡ outcome s (gap n)

@@ -26,7 +26,7 @@ module _ (m : ℕ) (hm : T (isMode m)) where
   group-turns (suc k) x y hx hy =
       pair (turns m k x) (turns m k y) (turns-state m hm k x hx) (turns-state m hm k y hy) .same ∙ group-turns k x y hx hy
 
-  bits-group : (x y : ℕ) → T (isState m x) → T (isState m y) → value (lineBits m x y) ≡ group m (face m x) y
+  pub bits-group : (x y : ℕ) → T (isState m x) → T (isState m y) → value (lineBits m x y) ≡ group m (face m x) y
   bits-group x y hx hy = value-bits (width m) (group m (face m x) y) ∙ mod-eq-of-lt (pair x y hx hy .fits)
 
   group-bits : (x y x′ y′ : ℕ) → T (isState m x) → T (isState m y) → T (isState m x′) → T (isState m y′)

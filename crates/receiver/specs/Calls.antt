@@ -32,6 +32,12 @@ heard s [] = []
 heard s (e ∷ es) =
     accepted (refusal s e) (record { event = e; answered = answer s e } ∷ heard (next s e) es) (heard (next s e) es)
 
+abbrev pub events : List Heard → List Event
+events xs = map (λ (x : Heard). x .event) xs
+
+abbrev pub answers : List Heard → List Answer
+answers xs = map (λ (x : Heard). x .answered) xs
+
 -- the intervals of the accepted calls
 abbrev pub heardIntervals : List Heard → ℕ
 heardIntervals [] = 0
