@@ -1,4 +1,5 @@
 // The calls for C and Rust, by their exported names. What each does is in the crates that it calls; include/kerambiu.h declares them.
+use listing::Listed;
 ghost use mathlib.Core.Path.{_≡_};
 ghost use lib.ListN.{length as size};
 ghost use Rattle.line.specs.Point.{at};
@@ -6,7 +7,7 @@ ghost use Rattle.receiver.specs.Receiver.{point, gap};
 ghost use Rattle.store.specs.Reading.{readNumber, readCount, readResult};
 ghost use Rattle.track.specs.Append.{makeNumber, makeResult, lostNumber, lostResult, pointNumber, pointResult};
 ghost use Rattle.track.specs.Points.{pointsNumber, pointsResult};
-ghost use Rattle.listing.specs.Text.{listNumber, listCount, listResult};
+ghost use Rattle.listing.specs.Text.{text, listNumber, listResult};
 ghost use Rattle.lent_receiver.specs.Receiving.{freshNumber, freshState, callNumber, callState, callAnswer, blockNumber, blockState, blockLine, blockPlain};
 ghost use Rattle.lent_sender.specs.Sending.{openNumber, openState, openOut, sendNumber, sendState, sendOut};
 ghost use Rattle.kerambiu.specs.Counted.{countedNumber, countedOut, countedCounts};
@@ -143,14 +144,17 @@ pub extern "C" fn kerambiu_read(
 // Writes the listing of a store into `out`, and how many bytes it has into `count`: 0, or the number that refuses it.
 #[no_mangle]
 pub extern "C" fn kerambiu_list(store: &[u8], out: &mut [u8], count: &mut [usize]) -> u8
-    ensures { λ r. ⌜ (r ≡ countedNumber (now (count .entry)) (listNumber (size (now (out .entry))))) × (now (out .exit) ≡ countedOut (now (count .entry)) (listResult (now (store .entry)) (now (out .entry))) (now (out .entry))) × (now (count .exit) ≡ countedCounts (now (count .entry)) (listNumber (size (now (out .entry)))) (listCount (now (store .entry)) (size (now (out .entry))))) ⌝ }
+    ensures { λ r. ⌜ (r ≡ countedNumber (now (count .entry)) (listNumber (size (now (out .entry))))) × (now (out .exit) ≡ countedOut (now (count .entry)) (listResult (now (store .entry)) (now (out .entry))) (now (out .entry))) × (now (count .exit) ≡ countedCounts (now (count .entry)) (listNumber (size (now (out .entry)))) (size (text (now (store .entry))))) ⌝ }
 {
     if count.len() < 1 {
         return 7;
     }
     let listed = listing::list(store, out);
-    if listed.number == 0 {
-        count[0] = listed.count;
+    match listed {
+        Listed::Refused(number) => number,
+        Listed::Written(bytes) => {
+            count[0] = bytes;
+            0
+        }
     }
-    listed.number
 }

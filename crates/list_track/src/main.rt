@@ -1,4 +1,5 @@
 // Lists the track store that stands on standard input: document 01, "Listing program".
+use listing::Listed;
 ghost use mathlib.Core.Path.{_≡_};
 ghost use lib.ListN.{length, take};
 ghost use Rattle.io.specs.Counts.{Counts};
@@ -25,7 +26,10 @@ fn list_first(input: &[u8], n: usize, out: &mut [u8; 372591]) -> usize
     ensures { λ r. ⌜ (r ≡ length (text (take n (now (input .entry))))) × (take r (now (out .exit)) ≡ text (take n (now (input .entry)))) × Counts r (now (out .exit)) ⌝ }
 {
     let listed = listing::list(&input[..n], out);
-    listed.count
+    match listed {
+        Listed::Refused(_) => 0,
+        Listed::Written(count) => count,
+    }
 }
 
 // A store has at most 65,536 bytes. One byte more is kept, so that a longer input is refused for its size, as the whole of

@@ -31,7 +31,7 @@ use Rattle.store.specs.Store.{chain, events, total, hasMark, headOk, refusal}
 use Rattle.store.proofs.Records.{total-at}
 use Rattle.store.proofs.Sounds.{accepted-sound}
 use Rattle.listing.specs.Text.{taken, modeIn, roleIn}
-use Rattle.listing.specs.Laws.{AreBytes, NoneRefused}
+use Rattle.listing.specs.Laws.{NoneRefused}
 use Rattle.listing.proofs.Lines.{points-record}
 
 -- ---- what a record holds

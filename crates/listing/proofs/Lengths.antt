@@ -1,13 +1,12 @@
 -- No listing is longer than `longest`. Assumes nothing.
 use mathlib.Core.Path.{_≡_, refl, ap}
-use mathlib.Core.Bool.{true, false, _&&_}
+use mathlib.Core.Bool.{true}
 use mathlib.Core.List.{List, [], _∷_, _++_, map, map-append}
 use Prim.Native.Nat.{ℕ, zero, suc, _+_, _*_, _≤_, _<_}
 use native.Mathlib.Omega.{arith}
 use borrow.Author.Tests.{leb-true, ltb-true}
 use lib.Dec.{leb}
 use lib.ListN.{length, getD, drop, length-append, length-map}
-use Rattle.line.specs.declared.Point.{Point}
 use Rattle.deciding.specs.declared.Decision.{Decision}
 use Rattle.deciding.specs.declared.Decision.the-variants.{State, Origin, NoSector}
 use Rattle.line.specs.Mode.{isMode, isRole, byMode, width, face}
@@ -15,7 +14,7 @@ use Rattle.deciding.specs.Decide.{decide}
 use Rattle.coding.specs.Code.{group}
 use Rattle.line.specs.Refusal.{accepted}
 use Rattle.line.proofs.ByMode.{by-all, width-range}
-use Rattle.octets.specs.Number.{u32, zeros}
+use Rattle.octets.specs.Number.{u32}
 use Rattle.octets.proofs.Tests.{by-test, and-split}
 use Rattle.scrambler.specs.Scramble.{Datum, descramble}
 use Rattle.scrambler.proofs.BitLaws.{length-bits}
@@ -23,13 +22,13 @@ use Rattle.scrambler.proofs.GroupLaws.{length-descramble}
 use Rattle.receiver.specs.declared.Reference.{Reference}
 use Rattle.receiver.specs.declared.Reference.the-variants.{Nothing as none, State as some}
 use Rattle.receiver.specs.declared.Receiver.{Receiver}
-use Rattle.receiver.specs.Receiver.{freshReceiver, Answer, refused, lineBits, stateAnswer, pointAnswer, eventAnswer, answer}
-use Rattle.receiver.specs.Receiver.{gap, next, Event as Call, lost as lostAnswer, point as pointCall, refusal as eventRefused}
+use Rattle.receiver.specs.Receiver.{freshReceiver, refused, lineBits, stateAnswer, pointAnswer, eventAnswer, answer}
+use Rattle.receiver.specs.Receiver.{gap, next, Event as Call, point as pointCall, refusal as eventRefused}
 use Rattle.receiver.specs.Calls.{after}
 use Rattle.store.specs.Chain.{gather}
-use Rattle.store.specs.Layout.{Event, lost, count, rec, held, isPoints, pointAt, points, recordOk, eventsOf}
+use Rattle.store.specs.Layout.{count, rec, held, isPoints, pointAt, points, recordOk, eventsOf}
 use Rattle.store.specs.Layout.{next as nextIn}
-use Rattle.store.specs.Store.{chain, events, total, headOk, hasMark, refusal}
+use Rattle.store.specs.Store.{chain, events, total, headOk, refusal}
 use Rattle.store.proofs.Chains.{All, run-short}
 use Rattle.store.proofs.Sounds.{accepted-sound}
 use Rattle.listing.specs.Text.{decimal, glyphs, lineGlyphs, bitsAre, blank, kindText, lineText, taken, lines, firstLine, chainText, refusedLine, modeIn, roleIn, text, longest}
@@ -61,41 +60,35 @@ decision-long s (State y) = state-long s (s .reference) y
 decision-long s Origin = omega arith
 decision-long s NoSector = omega arith
 
-point-long : (s : Receiver) (p : Point) → length (kindText (answer s (pointCall p))) ≤ 15
-unfolding answer eventAnswer kindText
-point-long s p = go (eventRefused s (pointCall p))
+-- of any event whose kind takes at most b bytes
+line-long : (s : Receiver) (e : Call) (b : ℕ) → length (kindText (eventAnswer s e)) ≤ b → length (lineText (s .place .0) (answer s e)) ≤ 11 + b
+unfolding lineText answer kindText
+line-long s e b h = simp length-append (omega (arith, decimal-long (s .place .0), go (eventRefused s e)))
   where
-    go : (n : ℕ) → length (kindText (accepted n (pointAnswer s (decide (s .mode) p)) (refused n))) ≤ 15
-    go zero = decision-long s (decide (s .mode) p)
+    go : (n : ℕ) → length (kindText (accepted n (eventAnswer s e) (refused n))) ≤ b
+    go zero = h
     go (suc n) = omega arith
 
-gap-long : (s : Receiver) (n : ℕ) → length (kindText (answer s (gap n))) ≤ 16
-unfolding answer eventAnswer kindText
-gap-long s n = go (eventRefused s (gap n))
-  where
-    go : (k : ℕ) → length (kindText (accepted k (lostAnswer n) (refused k))) ≤ 16
-    go zero = simp length-append (omega (arith, decimal-long n))
-    go (suc k) = omega arith
-
-line-long : (place : ℕ) (a : Answer) → length (lineText place a) ≤ 11 + length (kindText a)
-unfolding lineText
-line-long place a = simp length-append (omega (arith, decimal-long place))
-
 points-long : (bs : List ℕ) (n : ℕ) (s : Receiver) → length (lines s (map taken (points bs n))) ≤ 26 * n
+unfolding eventAnswer
 points-long bs zero s = omega arith
 points-long bs (suc n) s =
     let e : Call = pointCall (pointAt bs) in
     omega (
       arith,
       length-append (lineText (s .place .0) (answer s e)) (lines (next s e) (map taken (points (drop 4 bs) n))),
-      line-long (s .place .0) (answer s e),
-      point-long s (pointAt bs),
+      line-long s e 15 (decision-long s (decide (s .mode) (pointAt bs))),
       points-long (drop 4 bs) n (next s e),
     )
 
 lost-long : (n : ℕ) (s : Receiver) → length (lines s (gap n ∷ [])) ≤ 27
+unfolding eventAnswer kindText
 lost-long n s =
-    omega (arith, length-append (lineText (s .place .0) (answer s (gap n))) [], line-long (s .place .0) (answer s (gap n)), gap-long s n)
+    omega (
+      arith,
+      length-append (lineText (s .place .0) (answer s (gap n))) [],
+      line-long s (gap n) 16 (simp length-append (omega (arith, decimal-long n))),
+    )
 
 -- ---- the lines of a record, and of a chain
 record-long : (r : List ℕ) (s : Receiver) → recordOk r ≡ true → length (lines s (map taken (eventsOf r))) ≤ 182

@@ -2,20 +2,18 @@
 use mathlib.Core.Path.{_≡_, refl, sym, ap, ap₂, _∙_, subst}
 use mathlib.Core.List.{List, [], _∷_, _++_, map}
 use Prim.Native.Nat.{ℕ, zero, suc, _+_, _*_, _-_, _^_, _/_, _%_, _≤_, _<_}
-use native.Mathlib.Nat.{mod-le}
 use native.Mathlib.Omega.{arith}
 use borrow.Author.Tests.{ne-eqb, eq-eqb, le-leb}
-use lib.Dec.{T, eqb}
+use lib.Dec.{T}
 use lib.IntN.{ℤ}
-use lib.ListN.{length, getD, set, take, drop, drop-of-length-le}
+use lib.ListN.{length, getD, set, take, drop, drop-of-length-le, length-map}
+use lib.Pow.{pow-mono}
 use lib.Seq.{sets, sets-eq, take-at, drop-cons, drop-drop}
 use Rattle.line.specs.declared.Point.{Point}
-use Rattle.line.specs.Table.{entry}
-use Rattle.line.specs.Mode.{width, quadrant, face}
+use Rattle.line.specs.Mode.{width, face}
 use Rattle.line.specs.Point.{at, pairs}
 use Rattle.line.specs.Refusal.{accepted}
-use Rattle.line.proofs.ByMode.{by-all}
-use Rattle.line.proofs.TableLaws.{row-below}
+use Rattle.line.proofs.ByMode.{width-range}
 use Rattle.line.proofs.PointLaws.{pairs-length}
 use Rattle.line.proofs.RefusalLaws.{next-rest}
 use Rattle.octets.specs.Number.{u16, i16, signed}
@@ -24,19 +22,19 @@ use Rattle.octets.proofs.Sets.{sets-whole}
 use Rattle.deciding.specs.declared.Decision.{Decision}
 use Rattle.deciding.specs.declared.Decision.the-variants.{State, Origin, NoSector}
 use Rattle.deciding.specs.Decide.{decide}
-use Rattle.coding.specs.Code.{changes4, changes8, changes16, eighths, turnRow, group}
+use Rattle.coding.specs.Code.{group}
 use Rattle.scrambler.specs.Bits.{bits, value}
 use Rattle.scrambler.specs.Group.{descrambled, marked}
-use Rattle.scrambler.proofs.BitLaws.{length-bits, bits-are, value-bits, bits-value}
+use Rattle.scrambler.proofs.BitLaws.{length-bits, bits-are, value-small, bits-value}
 use Rattle.scrambler.proofs.GroupLaws.{group-read, descrambled-small}
 use Rattle.receiver.specs.declared.Reference.{Reference}
 use Rattle.receiver.specs.declared.Reference.the-variants.{Nothing as none, State as some}
 use Rattle.receiver.specs.declared.Receiver.{Receiver}
 use Rattle.receiver.specs.Receiver.{Answer, decoded, stateRefusal, inSector, stateAnswer, pointAnswer, eventAnswer, answer, next}
-use Rattle.receiver.specs.Receiver.{Event as Call, point, refused as isRefused, refusal as refused}
+use Rattle.receiver.specs.Receiver.{Event as Call, point, refused, refusal}
 use Rattle.receiver.specs.Calls.{after, EachAccepted, Heard, answers}
 use Rattle.receiver.proofs.OutcomeLaws.{in-sector}
-use Rattle.receiver.proofs.CallLaws.{no-refusal, accepted-valid, same-next, heard-accepted}
+use Rattle.receiver.proofs.CallLaws.{no-refusal, accepted-valid, same-next, heard-accepted, heard-all}
 use Rattle.bulk.specs.declared.Block.{Block}
 use Rattle.bulk.specs.declared.Block.the-variants.{Refused as NotTaken, Taken}
 use Rattle.bulk.specs.Block.{lineByte, plainByte, answersTo, lentOk, blockRefusal, block, lineBytes, plainBytes}
@@ -100,15 +98,6 @@ pub lines-end : (w place : ℕ) (ls ps : List ℕ) (k : ℕ) → length ls ≤ k
 lines-end w place ls ps k h = ap (λ (l : List ℕ). byteLines w (place + k) l (drop k ps)) (drop-of-length-le ls h)
 
 -- ---- what a point's two bytes say
-group-small : (m q y : ℕ) → group m q y < 16
-unfolding group turnRow
-group-small m q y =
-    let a = row-below (λ g. eqb (entry changes4 g) (eighths q y / 2)) 0 3 in
-    let b = row-below (λ g. eqb (entry changes8 g) (eighths q y)) 0 7 in
-    let c = row-below (λ g. eqb (entry changes16 (4 * g + quadrant q)) (quadrant y)) 0 3 in
-    let d = row-below (λ g. eqb (entry changes16 (4 * g + q % 4)) (quadrant y)) 0 3 in
-    by-all (λ (g : ℕ). g < 16) _ _ _ _ (omega arith) (omega arith) (omega arith) (omega arith) m
-
 module _ (s : Receiver) where
   abbrev Says : Answer → Type 0
   Says a = byteAnswer (width (s .mode)) (lineByte a) (plainByte a) ≡ a
@@ -121,15 +110,14 @@ module _ (s : Receiver) where
       let g : ℕ = group (s .mode) (face (s .mode) x) y in
       let v : ℕ = value (bits w g) in
       let d = descrambled (s .mode) (s .role) (s .line) g in
-      let h : v < 16 = value-small16 w g (group-small (s .mode) (face (s .mode) x) y) in
+      let n = length-bits w g in
+      let h : v < 2 ^ length (bits w g) = value-small (bits w g) (bits-are w g) in
+      let k : 2 ^ length (bits w g) ≤ 2 ^ 4 = pow-mono {j = 4} (omega (arith, n, width-range (s .mode) .1)) in
       let l = descrambled-small (s .mode) (s .role) (s .line) g in
       rw (ne-eqb v 16 (λ e. omega arith), ne-eqb v 17 (λ e. omega arith))
-      (ap₂ decoded (ap (λ (n : ℕ). bits n v) (sym (length-bits w g)) ∙ bits-value (bits w g) (bits-are w g))
+      (ap₂ decoded (ap (λ (i : ℕ). bits i v) (sym n) ∙ bits-value (bits w g) (bits-are w g))
       (ap₂ (λ (i j : ℕ). marked i (bits w j)) (let q : (16 * d .unsettled .0 + d .plain) / 16 ≡ d .unsettled .0 = omega arith in q)
       (let q : (16 * d .unsettled .0 + d .plain) % 16 ≡ d .plain = omega arith in q) ∙ group-read (s .mode) (s .role) (s .line) g))
-    where
-      value-small16 : (w g : ℕ) → g < 16 → value (bits w g) < 16
-      value-small16 w g h = let e = value-bits w g in let m = mod-le g (2 ^ w) in omega arith
 
   point-says : (d : Decision) → T (inSector d) → Says (pointAnswer s d)
   unfolding byteAnswer pointAnswer
@@ -137,10 +125,10 @@ module _ (s : Receiver) where
   point-says Origin t = refl
   point-says NoSector t = absurd t
 
-  byte-answer : (p : Point) → refused s (point p) ≡ 0 → Says (answer s (point p))
-  unfolding answer eventAnswer refused
+  byte-answer : (p : Point) → refusal s (point p) ≡ 0 → Says (answer s (point p))
+  unfolding answer eventAnswer refusal
   byte-answer p z =
-      subst Says (ap (λ (n : ℕ). accepted n (pointAnswer s (decide (s .mode) p)) (isRefused n)) (sym z)) (point-says (decide (s .mode) p) (in-sector s p (next-rest (stateRefusal s) _ z)))
+      subst Says (ap (λ (n : ℕ). accepted n (pointAnswer s (decide (s .mode) p)) (refused n)) (sym z)) (point-says (decide (s .mode) p) (in-sector s p (next-rest (stateRefusal s) _ z)))
 
 bytes-lines : (s : Receiver) (ps : List Point) → EachAccepted s (map point ps)
     → byteLines (width (s .mode)) (s .place .0) (map lineByte (answersTo s ps)) (map plainByte (answersTo s ps)) ≡ lines s (map point ps)
@@ -153,11 +141,6 @@ bytes-lines s (p ∷ ps) f =
     ∙ bytes-lines t ps (f .1))
 
 -- ---- the block
-answers-long : (f : Answer → ℕ) (s : Receiver) (ps : List Point) → EachAccepted s (map point ps) → length (map f (answersTo s ps)) ≡ length ps
-answers-long f s [] e = refl
-answers-long f s (p ∷ ps) e =
-    ap (λ (xs : List Heard). length (map f (answers xs))) (heard-accepted s (point p) (map point ps) (e .0)) ∙ ap suc (answers-long f (next s (point p)) ps (e .1))
-
 first-passes : (s : Receiver) (ps : List Point) → 1 ≤ length ps → EachAccepted s (map point ps) → (stateRefusal s ≡ 0) × (s .place .0 ≤ 4294967295)
 first-passes s [] h f = absurd (omega arith)
 first-passes s (p ∷ ps) h f = (no-refusal s (accepted-valid s (point p) (f .0)), omega (arith, has-place s p (f .0)))
@@ -192,7 +175,8 @@ module _ (r : List ℕ) (n : ℕ) (s : Receiver) (numbers : List ℤ) (e : numbe
       → take n l′ ≡ map f (answersTo s (pairs zs))
   first-bytes f l l′ k el z h =
       let vs : List ℕ = map f (answersTo s (pairs zs)) in
-      let long : length vs ≡ n = answers-long f s (pairs zs) each-accepted ∙ pairs-long in
+      let heard-long = simp length-map at (ap length (heard-all s (map point (pairs zs)) each-accepted)) in
+      let long : length vs ≡ n = simp length-map (heard-long ∙ pairs-long) in
       ap (take n) (h ∙ ap (λ (i : ℕ). accepted i (sets l 0 vs) l) z ∙ sets-eq vs l 0 (omega arith)) ∙ take-at vs _ n long
 
   module _ (l p : List ℕ) (el : length l ≡ 7) (ep : length p ≡ 7) where

@@ -1,7 +1,7 @@
 -- The pieces of a listing make its text. Assumes nothing.
 use mathlib.Core.Path.{_≡_, sym, ap, _∙_}
 use mathlib.Core.Bool.{true, false, and-false}
-use mathlib.Core.List.{List, _++_, map}
+use mathlib.Core.List.{List, [], _∷_, _++_, map}
 use Prim.Native.Nat.{ℕ, zero, suc, _+_, _≤_, _<_}
 use native.Mathlib.Omega.{arith}
 use native.Mathlib.Nat.{zero-add}
@@ -15,7 +15,7 @@ use Rattle.receiver.specs.Receiver.{freshReceiver}
 use Rattle.receiver.specs.Calls.{EachAccepted}
 use Rattle.store.specs.Store.{events, total, sizeOk, refusal}
 use Rattle.store.proofs.Records.{rec-byte}
-use Rattle.listing.specs.Text.{taken, lines, firstLine, chainText, refusedLine, modeIn, roleIn, text, longest, listNumber, listCount, listResult}
+use Rattle.listing.specs.Text.{taken, lines, firstLine, chainText, refusedLine, modeIn, roleIn, text, longest, listNumber, listCounts, listResult}
 use Rattle.listing.specs.Laws.{TooLong}
 use Rattle.listing.specs.Wrote.{Wrote}
 use Rattle.listing.proofs.Writes.{wrote-then, wrote-as}
@@ -49,14 +49,16 @@ module _ (s : List ℕ) (m role t : ℕ) (f : Receiver) (acc : refusal s ≡ 0) 
 
 -- ---- the call
 module _ (s out : List ℕ) where
-  pub list-short : length out < longest → (7 ≡ listNumber (length out)) × (0 ≡ listCount s (length out)) × (out ≡ listResult s out)
-  unfolding listNumber listCount listResult
+  pub list-short : length out < longest → (7 ≡ listNumber (length out)) × ([] ≡ listCounts s (length out)) × (out ≡ listResult s out)
+  unfolding listNumber listResult
   list-short h = let e : leb longest (length out) ≡ false = lt-leb longest (length out) h in (rw e, rw e, rw e)
 
   pub list-done : (out′ : List ℕ) (n : ℕ) → longest ≤ length out → Wrote out 0 (text s) out′ n
-      → (0 ≡ listNumber (length out)) × (n ≡ listCount s (length out)) × (out′ ≡ listResult s out)
-  unfolding listNumber listCount listResult
-  list-done out′ n h w = let e : leb longest (length out) ≡ true = le-leb longest (length out) h in (rw e, rw e (w .behind ∙ zero-add (length (text s))), rw e (w .written))
+      → (0 ≡ listNumber (length out)) × (n ∷ [] ≡ listCounts s (length out)) × (out′ ≡ listResult s out)
+  unfolding listNumber listResult
+  list-done out′ n h w =
+      let e : leb longest (length out) ≡ true = le-leb longest (length out) h in
+      (rw e, rw e (ap (λ (k : ℕ). k ∷ []) (w .behind ∙ zero-add (length (text s)))), rw e (w .written))
 
 -- ---- a refused store
 pub refused-text : (s : List ℕ) (k : ℕ) → k ≡ refusal s → (k ≡ 0 → ⊥) → refusedLine k ≡ text s
@@ -75,15 +77,26 @@ pub too-long : TooLong
 too-long s h = (refused-over s h, refused-over (take 65537 s) (omega (arith, length-take-le 65537 s (omega arith))))
 
 -- what a caller with room for any listing reads back
-pub text-back : (s out out′ : List ℕ) (n : ℕ) → length out ≡ longest → n ≡ listCount s (length out) → out′ ≡ listResult s out
-    → (n ≡ length (text s)) × (take n out′ ≡ text s) × ((n ≤ length out′) × (n ≡ length (take n out′)))
-unfolding listNumber listCount listResult
-text-back s out out′ n l e w =
-    let t : leb longest (length out) ≡ true = le-leb longest (length out) (omega arith) in
-    let count : n ≡ length (text s) = rw t at e in
-    let whole : out′ ≡ text s ++ drop (0 + length (text s)) out = (rw t at w) ∙ sets-eq (text s) out 0 (omega (arith, none-longer s)) in
-    let first : take n out′ ≡ text s = ap (take n) whole ∙ take-at (text s) (drop (0 + length (text s)) out) n (sym count) in (
-      count,
-      first,
-      (omega (arith, count, ap length whole, length-append (text s) (drop (0 + length (text s)) out)), count ∙ sym (ap length first)),
-    )
+module _ (s out out′ : List ℕ) (l : length out ≡ longest) (ks : List ℕ) (e : ks ≡ listCounts s (length out)) (w : out′ ≡ listResult s out) where
+  room : leb longest (length out) ≡ true
+  room = le-leb longest (length out) (omega arith)
+
+  counts-are : ks ≡ length (text s) ∷ []
+  unfolding listNumber
+  counts-are = rw room at e
+
+  whole : out′ ≡ text s ++ drop (0 + length (text s)) out
+  unfolding listNumber listResult
+  whole = (rw room at w) ∙ sets-eq (text s) out 0 (omega (arith, none-longer s))
+
+  pub text-given : ks ≡ [] → ⊥
+  text-given z = omega (arith, ap length z, ap length counts-are)
+
+  pub text-back : (n : ℕ) → ks ≡ n ∷ [] → (n ≡ length (text s)) × (take n out′ ≡ text s) × ((n ≤ length out′) × (n ≡ length (take n out′)))
+  text-back n q =
+      let count : n ≡ length (text s) = ap (λ (l : List ℕ). getD l 0 0) (sym q ∙ counts-are) in
+      let first : take n out′ ≡ text s = ap (take n) whole ∙ take-at (text s) (drop (0 + length (text s)) out) n (sym count) in (
+        count,
+        first,
+        (omega (arith, count, ap length whole, length-append (text s) (drop (0 + length (text s)) out)), count ∙ sym (ap length first)),
+      )

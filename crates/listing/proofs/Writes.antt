@@ -2,9 +2,9 @@
 use mathlib.Core.Path.{_≡_, refl, sym, ap, ap₂, _∙_}
 use mathlib.Core.Bool.{true, false, cond}
 use mathlib.Core.List.{List, [], _∷_, _++_}
-use Prim.Native.Nat.{ℕ, zero, suc, _+_, _-_, _/_, _%_, _^_, _≤_, _<_}
+use Prim.Native.Nat.{ℕ, suc, _+_, _-_, _/_, _%_, _^_, _≤_, _<_}
 use native.Mathlib.Omega.{arith}
-use native.Mathlib.Nat.{sub-zero}
+use native.Mathlib.Nat.{add-zero, sub-zero}
 use borrow.Author.Tests.{ltb-true, ltb-false, ne-eqb}
 use lib.Dec.{ltb}
 use lib.ListN.{length, length-append}
@@ -14,9 +14,7 @@ use Rattle.octets.proofs.Tests.{by-test}
 use Rattle.octets.proofs.Sets.{sets-then}
 use Rattle.scrambler.specs.Bits.{bits}
 use Rattle.scrambler.specs.Group.{marked}
-use Rattle.scrambler.proofs.BitLaws.{length-bits}
-use Rattle.listing.specs.Text.{glyphs, lineGlyphs, decimal, ref, bitsAre, lostAre, blank, lineEnd, trackMode, itsRole, itsTotal, refusedBy, kindText, lineText, firstLine, refusedLine}
-use Rattle.receiver.specs.Receiver.{lost}
+use Rattle.listing.specs.Text.{glyphs, lineGlyphs, decimal, ref, bitsAre, lostAre, blank, lineEnd, kindText, lineText}
 use Rattle.listing.specs.Wrote.{Wrote, byteAnswer}
 
 -- one run after another
@@ -56,6 +54,12 @@ wrote-as {o} {o′} {u} {v} {at} {p} e a =
 abbrev pub bitsLeft : ℕ → ℕ → ℕ → ℕ → List ℕ
 bitsLeft w v u k = glyphs (marked (u - k) (bits (w - k) v))
 
+pub bits-start : (o : List ℕ) (at w v u : ℕ) → Rest o o at (at + 0) (glyphs (marked u (bits w v))) (bitsLeft w v u 0)
+bits-start o at w v u = rest-all (add-zero at) (ap₂ (λ (a b : ℕ). glyphs (marked a (bits b v))) (sub-zero u) (sub-zero w))
+
+pub bits-end : (w v u k : ℕ) → w ≤ k → bitsLeft w v u k ≡ []
+bits-end w v u k h = ap (λ (m : ℕ). glyphs (marked (u - k) (bits m v))) (let q : w - k ≡ 0 = omega arith in q)
+
 pub bits-step : (w v u k c : ℕ) → k < w → c ≡ cond (ltb k u) 45 (48 + v / 2 ^ (w - 1 - k) % 2) → bitsLeft w v u k ≡ c ∷ bitsLeft w v u (k + 1)
 bits-step w v u k c h e =
     ap (λ (m : ℕ). glyphs (marked (u - k) (bits m v))) (let q : w - k ≡ suc (w - (k + 1)) = omega arith in q) ∙ by-test (ltb k u) marks settles
@@ -76,65 +80,25 @@ bits-step w v u k c h e =
         ∙ ap₂ (λ (a b : ℕ). (48 + v / 2 ^ a % 2) ∷ glyphs (marked b (bits (w - (k + 1)) v))) x y
         ∙ ap (λ (x : ℕ). x ∷ bitsLeft w v u (k + 1)) (sym (e ∙ cond-false (ltb k u) 45 _ t))
 
--- one bit more
-pub bits-again : (out₀ out out′ : List ℕ) (at w v u k c : ℕ) → k < w → c ≡ cond (ltb k u) 45 (48 + v / 2 ^ (w - 1 - k) % 2) → out′ ≡ sets out (at + k) (c ∷ [])
-    → sets out (at + k) (bitsLeft w v u k) ≡ sets out₀ at (bitsLeft w v u 0) → sets out′ (at + (k + 1)) (bitsLeft w v u (k + 1)) ≡ sets out₀ at (bitsLeft w v u 0)
-bits-again out₀ out out′ at w v u k c h e o g =
-    ap (λ (l : List ℕ). sets l (at + (k + 1)) (bitsLeft w v u (k + 1))) o
-    ∙ sets-then (c ∷ []) (bitsLeft w v u (k + 1)) out (at + k) (at + (k + 1)) (omega arith)
-    ∙ ap (sets out (at + k)) (sym (bits-step w v u k c h e)) ∙ g
-
-bits-long : (u : ℕ) (bs : List ℕ) → length (glyphs (marked u bs)) ≡ length bs
-bits-long u [] = refl
-bits-long zero (b ∷ bs) = ap suc (bits-long zero bs)
-bits-long (suc u) (b ∷ bs) = ap suc (bits-long u bs)
-
-pub bits-end : (out₀ out : List ℕ) (at w v u k : ℕ) → w ≤ k → sets out (at + k) (bitsLeft w v u k) ≡ sets out₀ at (bitsLeft w v u 0)
-    → Wrote out₀ at (glyphs (marked u (bits w v))) out (at + w)
-bits-end out₀ out at w v u k h g =
-    let l : length (glyphs (marked u (bits w v))) ≡ w = bits-long u (bits w v) ∙ length-bits w v in
-    record {
-      written = sym (ap (λ (m : ℕ). sets out (at + k) (glyphs (marked (u - k) (bits m v)))) (let q : w - k ≡ 0 = omega arith in q)) ∙ g
-          ∙ ap₂ (λ (a b : ℕ). sets out₀ at (glyphs (marked a (bits b v)))) (sub-zero u) (sub-zero w);
-      behind = omega arith;
-    }
-
 -- line bits read as settled ones
 pub lines-settled : (bs : List ℕ) → glyphs (marked 0 bs) ≡ lineGlyphs bs
 lines-settled [] = refl
 lines-settled (b ∷ bs) = ap (λ (l : List ℕ). (48 + b) ∷ l) (lines-settled bs)
 
--- ---- what a line's pieces make
-module _ {o o₁ o′ : List ℕ} {at p₁ p : ℕ} (place : ℕ) (start : Wrote o at (decimal place) o₁ p₁) where
-  module _ (w l b : ℕ) where
-    pub point-reference : l ≡ 16 → Wrote o₁ p₁ (ref ++ lineEnd) o′ p → Wrote o at (lineText place (byteAnswer w l b)) o′ p
-    unfolding lineText kindText byteAnswer
-    point-reference e a = rw e (wrote-then start a)
+-- ---- the line of a point from its two bytes
+module _ {o o₁ o′ : List ℕ} {at p₁ p : ℕ} (place w l b : ℕ) (start : Wrote o at (decimal place) o₁ p₁) where
+  pub point-reference : l ≡ 16 → Wrote o₁ p₁ (ref ++ lineEnd) o′ p → Wrote o at (lineText place (byteAnswer w l b)) o′ p
+  unfolding lineText kindText byteAnswer
+  point-reference e a = rw e (wrote-then start a)
 
-    pub point-lost : l ≡ 17 → Wrote o₁ p₁ (lostAre ++ (49 ∷ lineEnd)) o′ p → Wrote o at (lineText place (byteAnswer w l b)) o′ p
-    unfolding lineText kindText byteAnswer decimal
-    point-lost e a = rw e (wrote-then start a)
+  pub point-lost : l ≡ 17 → Wrote o₁ p₁ (lostAre ++ (49 ∷ lineEnd)) o′ p → Wrote o at (lineText place (byteAnswer w l b)) o′ p
+  unfolding lineText kindText byteAnswer decimal
+  point-lost e a = rw e (wrote-then start a)
 
-    pub point-bits : {o₂ o₃ o₄ o₅ : List ℕ} {p₂ p₃ p₄ p₅ : ℕ} → (l ≡ 16 → ⊥) → (l ≡ 17 → ⊥) → Wrote o₁ p₁ bitsAre o₂ p₂ → Wrote o₂ p₂ (glyphs (marked 0 (bits w l))) o₃ p₃
-        → Wrote o₃ p₃ blank o₄ p₄ → Wrote o₄ p₄ (glyphs (marked (b / 16) (bits w (b % 16)))) o₅ p₅ → Wrote o₅ p₅ lineEnd o′ p
-        → Wrote o at (lineText place (byteAnswer w l b)) o′ p
-    unfolding lineText kindText byteAnswer
-    point-bits h k a c d e f =
-        rw (ne-eqb l 16 h, ne-eqb l 17 k)
-        (wrote-then start (wrote-then (wrote-then a (wrote-then (wrote-as (lines-settled (bits w l)) c) (wrote-then d e))) f))
-
-  pub lost-wrote : {o₂ o₃ : List ℕ} {p₂ p₃ : ℕ} (n : ℕ) → Wrote o₁ p₁ lostAre o₂ p₂ → Wrote o₂ p₂ (decimal n) o₃ p₃ → Wrote o₃ p₃ lineEnd o′ p
-      → Wrote o at (lineText place (lost n)) o′ p
-  unfolding lineText kindText
-  lost-wrote n a b c = wrote-then start (wrote-then (wrote-then a b) c)
-
-module _ {o o₁ o₂ o′ : List ℕ} {at p₁ p₂ p : ℕ} where
-  pub refused-wrote : (n : ℕ) → Wrote o at refusedBy o₁ p₁ → Wrote o₁ p₁ (decimal n) o₂ p₂ → Wrote o₂ p₂ lineEnd o′ p → Wrote o at (refusedLine n) o′ p
-  unfolding refusedLine
-  refused-wrote n a b c = wrote-then a (wrote-then b c)
-
-pub first-wrote : {o o₁ o₂ o₃ o₄ o₅ o₆ o′ : List ℕ} {at p₁ p₂ p₃ p₄ p₅ p₆ p : ℕ} (m role t : ℕ) → Wrote o at trackMode o₁ p₁ → Wrote o₁ p₁ (decimal m) o₂ p₂
-    → Wrote o₂ p₂ itsRole o₃ p₃ → Wrote o₃ p₃ (decimal role) o₄ p₄ → Wrote o₄ p₄ itsTotal o₅ p₅ → Wrote o₅ p₅ (decimal t) o₆ p₆ → Wrote o₆ p₆ lineEnd o′ p
-    → Wrote o at (firstLine m role t) o′ p
-unfolding firstLine
-first-wrote m role t a b c d e f g = wrote-then a (wrote-then b (wrote-then c (wrote-then d (wrote-then e (wrote-then f g)))))
+  pub point-bits : {o₂ o₃ o₄ o₅ : List ℕ} {p₂ p₃ p₄ p₅ : ℕ} → (l ≡ 16 → ⊥) → (l ≡ 17 → ⊥) → Wrote o₁ p₁ bitsAre o₂ p₂ → Wrote o₂ p₂ (glyphs (marked 0 (bits w l))) o₃ p₃
+      → Wrote o₃ p₃ blank o₄ p₄ → Wrote o₄ p₄ (glyphs (marked (b / 16) (bits w (b % 16)))) o₅ p₅ → Wrote o₅ p₅ lineEnd o′ p
+      → Wrote o at (lineText place (byteAnswer w l b)) o′ p
+  unfolding lineText kindText byteAnswer
+  point-bits h k a c d e f =
+      rw (ne-eqb l 16 h, ne-eqb l 17 k)
+      (wrote-then start (wrote-then (wrote-then a (wrote-then (wrote-as (lines-settled (bits w l)) c) (wrote-then d e))) f))

@@ -14,6 +14,8 @@ use Rattle.receiver.specs.Receiver.{point as pointCall}
 use Rattle.store.specs.Layout.{Event, point, rec}
 use Rattle.store.specs.Layout.{lost as lostFor}
 use Rattle.store.specs.Store.{events, total, refusal}
+use Rattle.listing.specs.declared.Listed.{Listed}
+use Rattle.listing.specs.declared.Listed.the-variants.{Refused, Written}
 
 -- NUMBERS AND WORDS
 
@@ -122,10 +124,19 @@ longest = 372591
 unfoldable pub listNumber : ℕ → ℕ
 listNumber room = need (leb longest room) 7 0
 
--- how many bytes were written
-unfoldable pub listCount : List ℕ → ℕ → ℕ
-listCount s room = accepted (listNumber room) (length (text s)) 0
+-- how many bytes were written, where they were
+abbrev pub listCounts : List ℕ → ℕ → List ℕ
+listCounts s room = accepted (listNumber room) (length (text s) ∷ []) []
 
 -- the lent bytes after the call: the text at their start, the others as they were
 unfoldable pub listResult : List ℕ → List ℕ → List ℕ
 listResult s out = accepted (listNumber (length out)) (sets out 0 (text s)) out
+
+-- what each case of the answer says: a refusal's number, 0 for none; and how many bytes were written, where they were
+abbrev pub numberOf : Listed → ℕ
+numberOf (Refused n) = n
+numberOf (Written n) = 0
+
+abbrev pub countsOf : Listed → List ℕ
+countsOf (Refused n) = []
+countsOf (Written n) = n ∷ []

@@ -23,7 +23,7 @@ ghost use Rattle.receiver.specs.Receiver.{freshReceiver, lost};
 ghost use Rattle.receiver.specs.Calls.{EachAccepted};
 ghost use Rattle.store.specs.Layout.{rec, points, recordOk, eventsOf};
 ghost use Rattle.store.specs.Store.{events, total, refusal};
-ghost use Rattle.listing.specs.Text.{decimal, glyphs, lineText, taken, lines, firstLine, refusedLine, text, listNumber, listCount, listResult};
+ghost use Rattle.listing.specs.Text.{decimal, glyphs, lineText, taken, lines, firstLine, refusedLine, text, listNumber, listCounts, listResult, numberOf, countsOf};
 ghost use Rattle.listing.specs.Wrote.{Wrote, Went, byteAnswer, byteLines, numbersIn};
 
 // Bytes enough for the listing of any store.
@@ -273,31 +273,22 @@ fn put_refused(out: &mut [u8], number: u8) -> usize
     put_text(out, end, b"\n")
 }
 
-// What listing gives: the number that refuses it, or 0, and the length of the text.
-pub struct Listed {
-    pub number: u8,
-    pub count: usize,
+// What listing gives: the number that refuses it, or the length of the text.
+pub enum Listed {
+    Refused(u8),
+    Written(usize),
 }
 
 // Lists a store of any length: its text stands at the start of the lent bytes.
 pub fn list(store: &[u8], out: &mut [u8]) -> Listed
-    ensures { λ r. ⌜ (r .number ≡ listNumber (length (now (out .entry)))) × (r .count ≡ listCount (now (store .entry)) (length (now (out .entry)))) × (now (out .exit) ≡ listResult (now (store .entry)) (now (out .entry))) ⌝ }
+    ensures { λ r. ⌜ (numberOf r ≡ listNumber (length (now (out .entry)))) × (countsOf r ≡ listCounts (now (store .entry)) (length (now (out .entry)))) × (now (out .exit) ≡ listResult (now (store .entry)) (now (out .entry))) ⌝ }
 {
     if out.len() < LONGEST {
-        return Listed {
-            number: 7,
-            count: 0,
-        };
+        return Listed::Refused(7);
     }
     let v = store::inspect(store);
     if v.number == 0 {
-        return Listed {
-            number: 0,
-            count: put_track(store, out, v.total as u32),
-        };
+        return Listed::Written(put_track(store, out, v.total as u32));
     }
-    Listed {
-        number: 0,
-        count: put_refused(out, v.number),
-    }
+    Listed::Written(put_refused(out, v.number))
 }

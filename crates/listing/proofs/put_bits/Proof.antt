@@ -1,23 +1,25 @@
 use Prim.Native.Nat.{_≤_, _-_, _+_}
 use mathlib.Core.Path.{_≡_, refl}
+use mathlib.Core.List.{[], _∷_}
 use native.Mathlib.Omega.{arith}
 use denote.Ref.{now}
-use native.Mathlib.Nat.{add-zero}
 use borrow.Author.Needs.{needs}
 use lib.ListN.{length}
-use lib.Seq.{sets}
-use Rattle.listing.proofs.Writes.{bitsLeft, bits-again, bits-end}
+use Rattle.scrambler.specs.Bits.{bits}
+use Rattle.scrambler.specs.Group.{marked}
+use Rattle.listing.specs.Text.{glyphs}
+use Rattle.listing.proofs.Writes.{Rest, rest-then, rest-none, bitsLeft, bits-start, bits-step, bits-end}
 use Rattle.listing.proofs.put_bits.Statement.{statement}
 use Rattle.listing.proofs.put_bits.Tie as tie
 
 abbrev Inv-loop : tie.InvT-loop
-Inv-loop out₀ at w v unsettled k₀ out k = (k ≤ w) × (length out ≡ length out₀) × (sets out (at + k) (bitsLeft w v unsettled k) ≡ sets out₀ at (bitsLeft w v unsettled 0))
+Inv-loop out₀ at w v unsettled k₀ out k = (k ≤ w) × (length out ≡ length out₀) × Rest out₀ out at (at + k) (glyphs (marked unsettled (bits w v))) (bitsLeft w v unsettled k)
 
 abbrev μ-loop : tie.MeasureT-loop
 μ-loop out₀ at w v unsettled k₀ out k = w - k
 
 loop-holds : tie.Need-loop-holds Inv-loop μ-loop
-loop-holds c = (omega arith, refl, simp add-zero)
+loop-holds c = let a = c .before .args in (omega arith, refl, bits-start (now (a .out)) (a .at) (a .w) (a .v) (a .unsettled))
 
 cast-put8 : tie.Need-cast-put8 Inv-loop μ-loop
 cast-put8 c = omega arith
@@ -41,11 +43,8 @@ loop-again : tie.Need-loop-again Inv-loop μ-loop
 loop-again c =
     let a = c .before .before .before .before .before .before .before .before .args in
     let l = c .before .before .before .before .before .before .loop in
-    let e = c .before .before .put8 .ensures in (
-      omega arith,
-      search needs,
-      bits-again (now (a .out)) (l .out) _ (a .at) (a .w) (a .v) (a .unsettled) (l .k) _ (c .before .before .before .before .before .loop-test .taken) (c .before .before .before .glyph-at .ensures) e (l .inv .2),
-    )
+    let e = bits-step (a .w) (a .v) (a .unsettled) (l .k) _ (c .before .before .before .before .before .loop-test .taken) (c .before .before .before .glyph-at .ensures) in
+    (omega arith, search needs, rest-then {u = _ ∷ []} (l .inv .2) e (record { written = c .before .before .put8 .ensures; behind = omega arith }))
 
 add-result : tie.Need-add-result Inv-loop μ-loop
 add-result c = omega arith
@@ -57,7 +56,8 @@ returns : tie.Need-returns Inv-loop μ-loop
 returns c =
     let a = c .before .before .before .args in
     let l = c .before .loop in
-    (bits-end (now (a .out)) (l .out) (a .at) (a .w) (a .v) (a .unsettled) (l .k) (c .loop-test .left) (l .inv .2), omega arith)
+    let e : l .k ≡ a .w = omega (arith, l .inv .0) in
+    (rw e at (rest-none (l .inv .2) (bits-end (a .w) (a .v) (a .unsettled) (l .k) (c .loop-test .left))), omega arith)
 
 pub put-bits-spec : {M : Type 1} → statement M
 put-bits-spec =

@@ -1,4 +1,5 @@
-use Rattle.listing.proofs.Writes.{lost-wrote}
+use Rattle.listing.specs.Text.{kindText, lineText}
+use Rattle.listing.proofs.Writes.{wrote-then}
 use borrow.Author.Needs.{needs}
 use Rattle.listing.proofs.put_lost.Statement.{statement}
 use Rattle.listing.proofs.put_lost.Tie as tie
@@ -25,9 +26,13 @@ same-length : tie.Need-same-length
 same-length c = search needs
 
 returns : tie.Need-returns
+unfolding lineText kindText
 returns c =
-    let a = c .before .before .before .before .before .before .before .before .before .before .before .before .before .before .before .before .before .before .before .args in
-    lost-wrote (a .place) (c .before .before .before .before .before .before .before .before .before .before .before .before .before .before .before .before .put-decimal .ensures .0) (a .n) (c .before .before .before .before .before .before .before .before .before .before .before .put-text .ensures) (c .before .before .before .before .before .before .before .put-decimal2 .ensures .0) (c .before .before .put-text2 .ensures)
+    wrote-then (c .before .before .before .before .before .before .before .before .before .before .before .before .before .before .before .before .put-decimal .ensures .0)
+    (wrote-then
+    (wrote-then (c .before .before .before .before .before .before .before .before .before .before .before .put-text .ensures)
+    (c .before .before .before .before .before .before .before .put-decimal2 .ensures .0))
+    (c .before .before .put-text2 .ensures))
 
 pub put-lost-spec : {M : Type 1} → statement M
 put-lost-spec =

@@ -21,7 +21,7 @@ returns c =
     let a = c .before .before .before .before .before .before .before .before .before .before .before .args in
     let e = c .before .before .put-text .ensures in
     let d = c .before .before .before .before .before .before .before .before .put-decimal .ensures in
-    (point-reference (a .place) (d .0) (a .w) (a .line) (a .plain) (c .before .before .before .before .before .if1 .taken) e, omega (arith, d .1, e .behind))
+    (point-reference (a .place) (a .w) (a .line) (a .plain) (d .0) (c .before .before .before .before .before .if1 .taken) e, omega (arith, d .1, e .behind))
 
 slice-aggregate-put-text-2 : tie.Need-slice-aggregate-put-text-2
 slice-aggregate-put-text-2 c = search needs
@@ -37,7 +37,7 @@ returns-2 c =
     let a = c .before .before .before .before .before .before .before .before .before .before .before .before .args in
     let e = c .before .before .put-text2 .ensures in
     let d = c .before .before .before .before .before .before .before .before .before .put-decimal .ensures in
-    (point-lost (a .place) (d .0) (a .w) (a .line) (a .plain) (c .before .before .before .before .before .if2 .taken) e, omega (arith, d .1, e .behind))
+    (point-lost (a .place) (a .w) (a .line) (a .plain) (d .0) (c .before .before .before .before .before .if2 .taken) e, omega (arith, d .1, e .behind))
 
 slice-aggregate-put-text-3 : tie.Need-slice-aggregate-put-text-3
 slice-aggregate-put-text-3 c = search needs
@@ -75,7 +75,7 @@ returns-3 c =
     let space = c .before .before .before .before .before .before .before .before .before .before .before .put-text4 .ensures in
     let plain = c .before .before .before .before .before .before .before .put-bits2 .ensures in
     let end = c .before .before .put-text5 .ensures in (
-      point-bits (a .place) (d .0) (a .w) (a .line) (a .plain) (c .before .before .before .before .before .before .before .before .before .before .before .before .before .before .before .before .before .before .before .before .before .before .before .before .if1 .left) (c .before .before .before .before .before .before .before .before .before .before .before .before .before .before .before .before .before .before .before .before .before .before .before .if2 .left) first (line .0) space (plain .0) end,
+      point-bits (a .place) (a .w) (a .line) (a .plain) (d .0) (c .before .before .before .before .before .before .before .before .before .before .before .before .before .before .before .before .before .before .before .before .before .before .before .before .if1 .left) (c .before .before .before .before .before .before .before .before .before .before .before .before .before .before .before .before .before .before .before .before .before .before .before .if2 .left) first (line .0) space (plain .0) end,
       omega (arith, d .1, first .behind, line .1, space .behind, plain .1, end .behind),
     )
 

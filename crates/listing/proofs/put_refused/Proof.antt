@@ -1,5 +1,6 @@
 use native.Mathlib.Omega.{arith}
-use Rattle.listing.proofs.Writes.{refused-wrote}
+use Rattle.listing.specs.Text.{refusedLine}
+use Rattle.listing.proofs.Writes.{wrote-then}
 use borrow.Author.Needs.{needs}
 use Rattle.listing.proofs.put_refused.Statement.{statement}
 use Rattle.listing.proofs.put_refused.Tie as tie
@@ -23,7 +24,11 @@ same-length : tie.Need-same-length
 same-length c = search needs
 
 returns : tie.Need-returns
-returns c = refused-wrote (c .before .before .before .before .before .before .before .before .before .before .before .before .before .before .before .args .number) (c .before .before .before .before .before .before .before .before .before .before .before .put-text .ensures) (c .before .before .before .before .before .before .before .put-decimal .ensures .0) (c .before .before .put-text2 .ensures)
+unfolding refusedLine
+returns c =
+    wrote-then (c .before .before .before .before .before .before .before .before .before .before .before .put-text .ensures)
+    (wrote-then (c .before .before .before .before .before .before .before .put-decimal .ensures .0)
+    (c .before .before .put-text2 .ensures))
 
 pub put-refused-spec : {M : Type 1} → statement M
 put-refused-spec =
