@@ -6,10 +6,10 @@ use mathlib.Core.Logic.{⊎-elim}
 use Rattle.receiver.specs.declared.Receiver.{Receiver}
 use Rattle.receiver.specs.Receiver.{Event}
 use Rattle.line.specs.Table.{All}
-use Rattle.receiver.specs.Calls.{after, Heard, heard, IsPoint}
+use Rattle.receiver.specs.Calls.{after, Heard, heard, events, IsPoint}
 use Rattle.receiver.proofs.CallLaws.{same-after}
 use Rattle.receiver.proofs.ShapeLaws.{shape}
-use Rattle.resync.specs.Demand.{events, Demand3}
+use Rattle.resync.specs.Demand.{Demand3}
 use Rattle.resync.proofs.ReceivedLaws.{Received, heard-even, lines-iff, turned-data, data-settled}
 use Rattle.resync.proofs.HandedLaws.{handed-as-written, sender-data}
 

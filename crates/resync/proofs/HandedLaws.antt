@@ -23,7 +23,7 @@ use Rattle.scrambler.specs.Bits.{bits}
 use Rattle.scrambler.specs.Scramble.{Datum, settled, descramble}
 use Rattle.receiver.specs.Receiver.{Event, point, gap}
 use Rattle.line.specs.Table.{All}
-use Rattle.receiver.specs.Calls.{Heard, decidedAs, decidedStates, row}
+use Rattle.receiver.specs.Calls.{Heard, decidedAs, decidedStates, row, events as heardEvents}
 use Rattle.receiver.specs.Turn.{lines}
 use Rattle.sender.specs.declared.Sender.{Sender}
 use Rattle.sender.specs.Calls.{DataPoint}
@@ -39,7 +39,6 @@ use Rattle.track.specs.Calls.{after, accepted}
 use Rattle.track.proofs.CallLaws.{Run, calls-law}
 use Rattle.resync.specs.Assured.{assuredPoint, dataFrom}
 use Rattle.resync.specs.DataPoints.{Consecutive, received, appended, eventIn, eventsIn, ReadBack, Handed, givenFrom}
-use Rattle.resync.specs.Demand as Demand
 use Rattle.resync.proofs.RowLaws.{drop-row, map-drop}
 use Rattle.resync.proofs.ReceivedLaws.{Received, data-any, enough}
 
@@ -145,20 +144,20 @@ drop-map : {A B : Type 0} (f : A → B) (n : ℕ) (xs : List A) → drop n (map 
 drop-map f n xs = sym (map-drop f n xs)
 
 -- the decided states of the points that were handed on
-states-same : (m : ℕ) (xs : List Heard) (ds : List DataPoint) → Demand.events xs ≡ received ds → decidedStates m xs ≡ statesOf m ds
+states-same : (m : ℕ) (xs : List Heard) (ds : List DataPoint) → heardEvents xs ≡ received ds → decidedStates m xs ≡ statesOf m ds
 states-same m [] [] e = refl
 states-same m [] (d ∷ ds) e = absurd (omega (arith, ap length e))
 states-same m (x ∷ xs) [] e = absurd (omega (arith, ap length e))
 states-same m (x ∷ xs) (d ∷ ds) e =
     let e0 : x .event ≡ point (d .point) = cc in
-    let e1 : Demand.events xs ≡ received ds = cc in
+    let e1 : heardEvents xs ≡ received ds = cc in
     ap₂ _∷_ (ap (decidedAs m) e0) (states-same m xs ds e1)
 
 row-lines : (m x : ℕ) (ys : List ℕ) → row (lines m x ys) ≡ lineBits m x ys
 row-lines m x [] = refl
 row-lines m x (y ∷ ys) = ap (λ (l : List ℕ). bits (width m) (group m (face m x) y) ++ l) (row-lines m y ys)
 
-pub sender-data : (m role : ℕ) (xs : List Heard) (ds : List DataPoint) → Received m role xs → Consecutive m role ds → Demand.events xs ≡ received ds
+pub sender-data : (m role : ℕ) (xs : List Heard) (ds : List DataPoint) → Received m role xs → Consecutive m role ds → heardEvents xs ≡ received ds
     → dataFrom (assuredPoint m) xs ≡ map settled (givenFrom (assuredPoint m) ds)
 sender-data m role [] [] k c e = rw (drop-nil {A = Heard} (assuredPoint m - 1), drop-nil {A = DataPoint} (assuredPoint m - 1))
 sender-data m role [] (d ∷ ds) k c e = absurd (omega (arith, ap length e))
@@ -169,7 +168,7 @@ sender-data m role (x ∷ xs) (d ∷ ds) k c e =
     let p : ℕ = assuredPoint m in
     let q = enough m (k .shape .0) in
     let e0 : x .event ≡ point (d .point) = cc in
-    let e1 : Demand.events xs ≡ received ds = cc in
+    let e1 : heardEvents xs ≡ received ds = cc in
     let g : row (lines m (decidedAs m (x .event)) (decidedStates m xs)) ≡ lineBits m (stateIn (decide m (d .point))) (statesOf m ds) =
     row-lines m (decidedAs m (x .event)) (decidedStates m xs) ∙ ap₂ (lineBits m) (ap (decidedAs m) e0) (states-same m xs ds e1) in
     let z : All (λ (h : List ℕ). length h ≡ width m) (map (λ (t : DataPoint). t .bits) ds) = made-sized m (f .sender) (d ∷ ds) (f .mode) (f .made-by) .1 in

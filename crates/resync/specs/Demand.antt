@@ -8,15 +8,11 @@ use Rattle.scrambler.specs.Scramble.{Datum, settled}
 use Rattle.receiver.specs.declared.Receiver.{Receiver}
 use Rattle.receiver.specs.Receiver.{Event}
 use Rattle.line.specs.Table.{All}
-use Rattle.receiver.specs.Calls.{after, Heard, heard, IsPoint, decidedStates, linesFrom2}
+use Rattle.receiver.specs.Calls.{after, Heard, heard, events, IsPoint, decidedStates, linesFrom2}
 use Rattle.receiver.specs.Turn.{Turned}
 use Rattle.sender.specs.Calls.{DataPoint}
 use Rattle.resync.specs.Assured.{assuredPoint, dataFrom, AllSettled}
 use Rattle.resync.specs.DataPoints.{Consecutive, Handed, givenFrom}
-
--- the events of accepted calls
-abbrev pub events : List Heard → List Event
-events xs = map (λ (x : Heard). x .event) xs
 
 -- what is vouched for of two lists A and B of accepted points, of one mode and role
 pub record Vouched (m role : ℕ) (A B : List Heard) : Type 0 where

@@ -10,13 +10,12 @@ use Rattle.scrambler.specs.Register.{register}
 use Rattle.receiver.specs.declared.Receiver.{Receiver}
 use Rattle.receiver.specs.Receiver.{Event, point, gap, freshReceiver}
 use Rattle.line.specs.Table.{All}
-use Rattle.receiver.specs.Calls.{after, heard, IsPoint, decidedStates}
+use Rattle.receiver.specs.Calls.{after, heard, events, IsPoint, decidedStates}
 use Rattle.receiver.specs.Turn.{Turned}
 use Rattle.sender.specs.declared.Sender.{Sender}
 use Rattle.sender.specs.Calls.{Send, DataPoint, dataPoints}
 use Rattle.track.specs.Append.{made}
 use Rattle.resync.specs.DataPoints.{Consecutive, received, appended, ReadBack, Handed}
-use Rattle.resync.specs.Demand.{events}
 
 abbrev pub sender : Sender
 sender = record { mode = 1; role = 0; reference = 0; line = register 0 7 }
