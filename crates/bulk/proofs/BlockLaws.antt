@@ -133,7 +133,7 @@ pub each-in-a-sector : (m : ℕ) (ps : List Point) → T (every (λ p. inSector 
 each-in-a-sector m [] = tt
 each-in-a-sector m (p ∷ ps) = and-intro (inSector (decide m p)) _ (in-a-sector m p) (each-in-a-sector m ps)
 
-accepts : (s : Receiver) (p : Point) → stateRefusal s ≡ 0 → T (inRange p) → s .place .0 < 4294967295 → refusal s (point p) ≡ 0
+pub accepts : (s : Receiver) (p : Point) → stateRefusal s ≡ 0 → T (inRange p) → s .place .0 < 4294967295 → refusal s (point p) ≡ 0
 unfolding refusal eventRefusal hasRoom
 accepts s p z i l =
     rw z (need-intro (inRange p) 8 _ i (need-intro (inSector (decide (s .mode) p)) 10 _ (in-a-sector (s .mode) p) (rw (le-leb (s .place .0 + 1) 4294967295 (omega arith)))))

@@ -11,7 +11,7 @@ use lib.Dec.{T, eqb}
 use Rattle.line.specs.declared.Point.{Point}
 use Rattle.deciding.specs.declared.Decision.{Decision}
 use Rattle.deciding.specs.declared.Decision.the-variants.{State, Origin, NoSector}
-use Rattle.line.specs.Mode.{isMode, isRole, isState, width, face}
+use Rattle.line.specs.Mode.{isState, width, face}
 use Rattle.line.specs.Point.{at, inRange}
 use Rattle.deciding.specs.Decide.{decide}
 use Rattle.coding.specs.Code.{group}

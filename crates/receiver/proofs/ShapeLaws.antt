@@ -108,7 +108,7 @@ follow-step m role x h place (gap n) es ih zero z a = absurd (a .0)
 follow-step m role x h place (point p) es ih (suc n) z a = ih x h place a
 follow-step m role x h place (gap k) es ih (suc n) z a = ih x h place a
 
-follow : (m role : ℕ) (es : List Event) → Followed m role es
+pub follow : (m role : ℕ) (es : List Event) → Followed m role es
 follow m role [] x h place a = record { states = tt; lines-are = refl; data-are = refl }
 follow m role (e ∷ es) x h place a =
     let s : Receiver = receiver m role (some x) h place in

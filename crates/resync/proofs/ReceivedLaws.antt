@@ -1,9 +1,8 @@
 -- What two receivers read from lists of points, whatever they took before. Assumes nothing.
-use Prim.Native.Nat.{ℕ, zero, suc, _+_, _*_, _-_, _<_, _≤_}
-use mathlib.Core.Path.{_≡_, refl, sym, _∙_, ap, ap₂, subst}
-use mathlib.Core.Bool.{Bool, true, false, _&&_}
+use Prim.Native.Nat.{ℕ, zero, suc, _*_, _-_, _≤_}
+use mathlib.Core.Path.{_≡_, refl, sym, _∙_, ap, subst}
 use mathlib.Core.Logic.{_↔_}
-use mathlib.Core.List.{List, [], _∷_, _++_, map}
+use mathlib.Core.List.{List, [], _∷_, map}
 use native.Mathlib.Nat.{le-refl}
 use native.Mathlib.Omega.{arith}
 use lib.Dec.{T}
@@ -16,11 +15,9 @@ use Rattle.line.specs.Mode.{isMode, isState, width, capacity, face}
 use Rattle.deciding.specs.Decide.{decide}
 use Rattle.coding.specs.Code.{group}
 use Rattle.line.specs.Refusal.{accepted}
-use Rattle.line.proofs.ByMode.{by-all}
 use Rattle.coding.proofs.ModeLaws.{mode-cases}
 use Rattle.line.proofs.TableLaws.{and-intro}
 use Rattle.scrambler.specs.declared.Register.{Register}
-use Rattle.scrambler.specs.Bits.{bits}
 use Rattle.scrambler.specs.Register.{register}
 use Rattle.scrambler.specs.Scramble.{Datum, descramble}
 use Rattle.scrambler.proofs.BitLaws.{length-bits}
@@ -28,10 +25,10 @@ use Rattle.scrambler.proofs.GroupLaws.{length-descramble}
 use Rattle.receiver.specs.declared.Reference.{Reference}
 use Rattle.receiver.specs.declared.Reference.the-variants.{Nothing as none, State as some}
 use Rattle.receiver.specs.declared.Receiver.{Receiver}
-use Rattle.receiver.specs.Receiver.{Event, point, gap, Answer, refused, reference, decoded, lost, refusal, lineBits, stateAnswer, pointAnswer, eventAnswer, answer, next}
+use Rattle.receiver.specs.Receiver.{Event, point, gap, Answer, refused, reference, refusal, lineBits, stateAnswer, pointAnswer, eventAnswer, answer, next}
 use Rattle.line.specs.Table.{All}
-use Rattle.receiver.specs.Calls.{Heard, heard, IsPoint, decidedAs, lineOf, dataOf, decidedStates, linesHeard, linesFrom2, dataHeard, row}
-use Rattle.receiver.specs.Turn.{lines, linesOf, Turned}
+use Rattle.receiver.specs.Calls.{Heard, heard, decidedAs, lineOf, dataOf, decidedStates, linesHeard, linesFrom2, dataHeard, row}
+use Rattle.receiver.specs.Turn.{lines, Turned}
 use Rattle.receiver.proofs.ShapeLaws.{Follows, Shape}
 use Rattle.receiver.proofs.TurnLaws.{lines→turned, turned→lines}
 use Rattle.resync.specs.Assured.{assuredPoint, dataFrom, AllSettled}
