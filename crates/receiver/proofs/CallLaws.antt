@@ -14,7 +14,7 @@ use Rattle.line.specs.Mode.{isMode, isRole, isState, width, face}
 use Rattle.line.specs.Point.{isOrigin}
 use Rattle.deciding.specs.Decide.{decide}
 use Rattle.coding.specs.Code.{group}
-use Rattle.line.specs.Refusal.{orNext, accepted}
+use Rattle.line.specs.Refusal.{need, orNext, accepted}
 use Rattle.line.proofs.RefusalLaws.{need-met, need-rest, need-intro, next-first, next-rest}
 use Rattle.line.proofs.TableLaws.{and-left, and-right, and-intro}
 use Rattle.scrambler.specs.declared.Register.{Register}
@@ -52,12 +52,8 @@ valid s z =
 pub no-refusal : (s : Receiver) → Valid s → stateRefusal s ≡ 0
 unfolding stateRefusal modeRefusal
 no-refusal s v =
-    or-none _ _ (need-intro (isMode (s .mode)) 1 _ (v .mode) (need-intro (isRole (s .mode) (s .role)) 2 0 (v .role) refl))
-    (need-intro (fieldsOk (s .mode) (s .reference) (s .line)) 4 0 (v .fields) refl)
-  where
-    or-none : (a b : ℕ) → a ≡ 0 → b ≡ 0 → orNext a b ≡ 0
-    or-none zero b p q = q
-    or-none (suc a) b p q = p
+    ap (λ (n : ℕ). orNext n (need (fieldsOk (s .mode) (s .reference) (s .line)) 4 0)) (need-intro (isMode (s .mode)) 1 _ (v .mode) (need-intro (isRole (s .mode) (s .role)) 2 0 (v .role) refl))
+    ∙ need-intro (fieldsOk (s .mode) (s .reference) (s .line)) 4 0 (v .fields) refl
 
 -- an accepted call shows that its state met them
 pub accepted-valid : (s : Receiver) (e : Event) → refusal s e ≡ 0 → Valid s

@@ -30,7 +30,8 @@ use Rattle.track.proofs.CallLaws.{Run, calls-law}
 use Rattle.resync.specs.Assured.{assuredPoint, dataFrom}
 use Rattle.resync.specs.DataPoints.{Consecutive, received, appended, eventIn, eventsIn, ReadBack, Handed, givenFrom}
 use Rattle.resync.proofs.RowLaws.{drop-row, map-drop}
-use Rattle.resync.proofs.ReceivedLaws.{Received, data-any, enough}
+use Rattle.resync.proofs.ReceivedLaws.{data-any, enough}
+use Rattle.receiver.proofs.ShapeLaws.{Shape}
 use Rattle.resync.proofs.SenderLaws.{groupsOf, states-same, made-sized, data-given}
 
 -- READ BACK AS WRITTEN
@@ -119,7 +120,7 @@ from-sender m role ds c =
     subst₂ (λ (n r : ℕ). From n r ds) (c .mode-is) (c .role-is) (consecutive (c .sender) (c .calls) (c .earlier) ds (c .later) (c .are))
 
 -- the bits from the assured point on: the register is the sender's own after the first point
-sender-made : (s : Sender) (xs : List Heard) (ds : List DataPoint) → Received (s .mode) (s .role) xs → Made s ds → heardEvents xs ≡ received ds
+sender-made : (s : Sender) (xs : List Heard) (ds : List DataPoint) → Shape (s .mode) (s .role) xs → Made s ds → heardEvents xs ≡ received ds
     → dataFrom (assuredPoint (s .mode)) xs ≡ map settled (givenFrom (assuredPoint (s .mode)) ds)
 unfolding afterGroup
 sender-made s [] [] k c e = rw (drop-nil {A = Heard} (assuredPoint (s .mode) - 1), drop-nil {A = DataPoint} (assuredPoint (s .mode) - 1))
@@ -130,7 +131,7 @@ sender-made s (x ∷ xs) (d ∷ ds) k c e =
     let role : ℕ = s .role in
     let t : Sender = afterGroup s (d .bits) in
     let p : ℕ = assuredPoint m in
-    let q = enough m (k .shape .0) in
+    let q = enough m (k .0) in
     let e0 : x .event ≡ point (d .point) = cc in
     let e1 : heardEvents xs ≡ received ds = cc in
     let x0 : decidedAs m (x .event) ≡ t .reference = ap (decidedAs m) e0 ∙ ap stateIn (decided-made s d ds c) in
@@ -141,9 +142,9 @@ sender-made s (x ∷ xs) (d ∷ ds) k c e =
     ∙ ap (map settled) (drop-row (width m) (p - 2) (groupsOf ds) (made-sized t ds (c .4)) ∙ ap row (sym (map-drop (λ (t : DataPoint). t .bits) (p - 2) ds)))
     ∙ ap (λ (n : ℕ). map settled (row (groupsOf (drop n (d ∷ ds))))) (let w : suc (p - 2) ≡ p - 1 = omega arith in w)
 
-pub sender-data : (m role : ℕ) (xs : List Heard) (ds : List DataPoint) → Received m role xs → Consecutive m role ds → heardEvents xs ≡ received ds
+pub sender-data : (m role : ℕ) (xs : List Heard) (ds : List DataPoint) → Shape m role xs → Consecutive m role ds → heardEvents xs ≡ received ds
     → dataFrom (assuredPoint m) xs ≡ map settled (givenFrom (assuredPoint m) ds)
 sender-data m role xs ds k c e =
     let f : From m role ds = from-sender m role ds c in
     subst (λ (n : ℕ). dataFrom (assuredPoint n) xs ≡ map settled (givenFrom (assuredPoint n) ds)) (f .mode)
-    (sender-made (f .sender) xs ds (subst₂ (λ (n r : ℕ). Received n r xs) (sym (f .mode)) (sym (f .role-is)) k) (f .made-by) e)
+    (sender-made (f .sender) xs ds (subst₂ (λ (n r : ℕ). Shape n r xs) (sym (f .mode)) (sym (f .role-is)) k) (f .made-by) e)
