@@ -91,7 +91,7 @@ on-line-points : (ds : List DataPoint) → map onLine (appended ds) ≡ received
 on-line-points [] = refl
 on-line-points (d ∷ ds) = ap (λ (es : List Event). point (d .point) ∷ es) (on-line-points ds)
 
--- "handed on as read" is "handed on as written"
+-- data points that were read back are those that were written
 pub handed-as-written : (ds : List DataPoint) (es : List Event) → Handed ds es → es ≡ received ds
 handed-as-written ds es = ⊎-elim (λ e. e) back
   where

@@ -1,4 +1,5 @@
--- Demand 3, one statement about whole lists of calls.
+-- Demand 3: "ONE theorem over whole lists of calls, not one per call. It stays whole through every request." Its other sentences stand
+-- beside the clauses.
 use Prim.Native.Nat.{ℕ}
 use mathlib.Core.Path.{_≡_}
 use mathlib.Core.List.{List, map}
@@ -19,7 +20,8 @@ pub record Vouched (m role : ℕ) (A B : List Heard) : Type 0 where
   -- "The line bits from the second point on are equal EXACTLY when the decided states of one list are those of the other, all turned by
   -- one whole number of the mode's steps (mode 4: the first point by its quadrant only)."
   pub exactly : linesFrom2 A ≡ linesFrom2 B ↔ Turned m (decidedStates m A) (decidedStates m B)
-  -- "If so, all data bits from point 6 (mode 1), 5 (mode 2), 14 (mode 3), 8 (mode 4) are settled and equal."
+  -- "If so, all data bits from point 6 (mode 1), 5 (mode 2), 14 (mode 3), 8 (mode 4) are settled and equal." Being equal, those
+  -- of B are settled too.
   pub are-settled : Turned m (decidedStates m A) (decidedStates m B) → AllSettled (dataFrom (assuredPoint m) A)
   pub are-equal : Turned m (decidedStates m A) (decidedStates m B) → dataFrom (assuredPoint m) A ≡ dataFrom (assuredPoint m) B
   -- "If, besides, one list is consecutive data points of a sender of that mode and role, whatever it sent before, direct or read back from
