@@ -1,40 +1,38 @@
 -- The receiver's calls for C: a state is 16 lent bytes, an answer 8; lent bytes beyond them stay as they are.
---   state   0 mode, 1 role, 2 whether there is a reference (0 or 1), 3 the reference (0 without one), 4 the register's line bits
---           (u32, newest lowest), 8 their count, 9 to 11 zero, 12 the place (u32); numbers little-endian
+--   state   as lent/specs/State says, with 2 whether there is a reference (0 or 1), 3 the reference (0 without one), 12 the place
 --   answer  0 kind (0 reference, 1 bits, 2 gap), 1 line bits, 2 data bits, 3 how many of these are unsettled, 4 the gap (u32)
-use Prim.Native.Nat.{ℕ, zero, suc, _+_, _*_}
-use mathlib.Core.Bool.{Bool, true, false, _&&_, cond}
+use Prim.Native.Nat.{ℕ, _<_, _≤_}
+use mathlib.Core.Path.{_≡_}
+use mathlib.Core.Bool.{Bool, _&&_, cond}
 use mathlib.Core.List.{List, [], _∷_, _++_, map}
 use lib.Dec.{leb, ltb, eqb}
 use lib.IntN.{ℤ}
 use lib.ListN.{length, getD}
 use lib.Seq.{sets}
 use Rattle.line.specs.Point.{pairs}
-use Rattle.line.specs.Refusal.{need, orNext, accepted}
+use Rattle.line.specs.Refusal.{need, accepted, modeRefusal}
 use Rattle.octets.specs.Number.{u32, le32}
-use Rattle.scrambler.specs.Register.{register}
 use Rattle.receiver.specs.declared.Reference.{Reference}
 use Rattle.receiver.specs.declared.Reference.the-variants.{Nothing, State}
 use Rattle.receiver.specs.declared.Receiver.{Receiver}
 use Rattle.receiver.specs.declared.Outcome.{Outcome}
 use Rattle.receiver.specs.declared.Outcome.the-variants.{Refused, Referenced, Bits, Gap}
-use Rattle.line.specs.Refusal.{modeRefusal}
 use Rattle.receiver.specs.Receiver.{Event, point, receiver, freshReceiver, refusal, next}
 use Rattle.receiver.specs.Outcome.{outcome}
 use Rattle.receiver.specs.Calls.{after}
-use Rattle.bulk.specs.Block.{lineByte, plainByte, answersTo, blockRefusal}
+use Rattle.bulk.specs.Block.{blockRefusal, lineBytes, plainBytes}
+use Rattle.lent.specs.State.{registerIn, clear, stateOut, holdsState, makingNumber}
 
 -- THE BYTES OF A STATE
 
 -- bytes 2, 3 and 9 to 11 that are no layout read as a reference that is no state, which number 4 refuses
 unfoldable pub referenceIn : List ℕ → Reference
 referenceIn s =
-    let clear : Bool = eqb (getD s 9 0) 0 && (eqb (getD s 10 0) 0 && eqb (getD s 11 0) 0) in
-    cond (clear && eqb (getD s 2 0) 1) (State (getD s 3 0))
-    (cond (clear && (eqb (getD s 2 0) 0 && eqb (getD s 3 0) 0)) Nothing (State 255))
+    cond (clear s && eqb (getD s 2 0) 1) (State (getD s 3 0))
+    (cond (clear s && (eqb (getD s 2 0) 0 && eqb (getD s 3 0) 0)) Nothing (State 255))
 
 unfoldable pub receiverIn : List ℕ → Receiver
-receiverIn s = receiver (getD s 0 0) (getD s 1 0) (referenceIn s) (register (u32 s 4) (getD s 8 0)) (u32 s 12)
+receiverIn s = receiver (getD s 0 0) (getD s 1 0) (referenceIn s) (registerIn s) (u32 s 12)
 
 abbrev pub present : Reference → ℕ
 present Nothing = 0
@@ -45,9 +43,13 @@ stateByte Nothing = 0
 stateByte (State x) = x
 
 unfoldable pub receiverOut : Receiver → List ℕ
-receiverOut s =
-    (s .mode ∷ s .role ∷ present (s .reference) ∷ stateByte (s .reference) ∷ []) ++ (le32 (s .line .bits)
-    ++ ((s .line .held .0 ∷ 0 ∷ 0 ∷ 0 ∷ []) ++ le32 (s .place .0)))
+receiverOut s = stateOut (s .mode) (s .role) (present (s .reference)) (stateByte (s .reference)) (s .line) (s .place .0)
+
+-- a state written into lent bytes is the state that the next call reads; proved in proofs/Back
+abbrev pub ReadsBack : Type 0
+ReadsBack =
+    (b : List ℕ) (s : Receiver) → 16 ≤ length b → s .line .bits < 4294967296 → s .place .0 < 4294967296
+    → receiverIn (sets b 0 (receiverOut s)) ≡ s
 
 -- THE BYTES OF AN ANSWER
 
@@ -63,21 +65,17 @@ answerOut (Gap n t) = answerBytes 2 0 0 0 (n .0)
 
 -- THE CALLS
 
--- number 7: too few lent bytes for a state, or for an answer
-abbrev pub holdsState : List ℕ → Bool
-holdsState b = leb 16 (length b)
-
-abbrev pub holdsAnswer : List ℕ → Bool
-holdsAnswer b = leb 8 (length b)
-
 -- making a receiver: its number, and the state's bytes when it returns
 unfoldable pub freshNumber : List ℕ → ℕ → ℕ → ℕ
-freshNumber state m role = orNext (modeRefusal m role) (need (holdsState state) 7 0)
+freshNumber state m role = makingNumber state (modeRefusal m role)
 
 unfoldable pub freshState : List ℕ → ℕ → ℕ → List ℕ
 freshState state m role = accepted (freshNumber state m role) (sets state 0 (receiverOut (freshReceiver m role))) state
 
--- the lower of the numbers 7 and n; 0 is none
+-- number 7: too few lent bytes for an answer; the lower of it and of n, 0 is none
+abbrev pub holdsAnswer : List ℕ → Bool
+holdsAnswer b = leb 8 (length b)
+
 unfoldable pub atMost7 : ℕ → ℕ
 atMost7 n = cond (leb 1 n && ltb n 7) n 7
 
@@ -102,33 +100,7 @@ blockState state zs l p =
     accepted (blockNumber state zs l p) (sets state 0 (receiverOut (after (receiverIn state) (map point (pairs zs))))) state
 
 unfoldable pub blockLine : List ℕ → List ℤ → List ℕ → List ℕ → List ℕ
-blockLine state zs l p = accepted (blockNumber state zs l p) (sets l 0 (map lineByte (answersTo (receiverIn state) (pairs zs)))) l
+blockLine state zs l p = cond (holdsState state) (lineBytes (receiverIn state) zs l (length p)) l
 
 unfoldable pub blockPlain : List ℕ → List ℤ → List ℕ → List ℕ → List ℕ
-blockPlain state zs l p = accepted (blockNumber state zs l p) (sets p 0 (map plainByte (answersTo (receiverIn state) (pairs zs)))) p
-
--- WHAT THE CODE DOES WITH AN OUTCOME
-
-abbrev pub numberOut : Outcome → ℕ
-numberOut (Refused n) = n
-numberOut (Referenced t) = 0
-numberOut (Bits g t) = 0
-numberOut (Gap n t) = 0
-
-abbrev pub stateAfter : Outcome → List ℕ → List ℕ
-stateAfter (Refused n) b = b
-stateAfter (Referenced t) b = sets b 0 (receiverOut t)
-stateAfter (Bits g t) b = sets b 0 (receiverOut t)
-stateAfter (Gap n t) b = sets b 0 (receiverOut t)
-
-abbrev pub answerAfter : Outcome → List ℕ → List ℕ
-answerAfter o b = sets b 0 (answerOut o)
-
-unfoldable pub handedNumber : List ℕ → Outcome → ℕ
-handedNumber answer o = cond (holdsAnswer answer) (numberOut o) (atMost7 (numberOut o))
-
-unfoldable pub handedState : List ℕ → List ℕ → Outcome → List ℕ
-handedState state answer o = cond (holdsAnswer answer) (stateAfter o state) state
-
-unfoldable pub handedAnswer : List ℕ → Outcome → List ℕ
-handedAnswer answer o = cond (holdsAnswer answer) (answerAfter o answer) answer
+blockPlain state zs l p = cond (holdsState state) (plainBytes (receiverIn state) zs (length l) p) p

@@ -6,7 +6,8 @@ ghost use lib.Seq.{sets};
 ghost use Rattle.line.specs.Point.{at};
 ghost use Rattle.octets.specs.Number.{u32 as word};
 ghost use Rattle.receiver.specs.Receiver.{point, gap};
-ghost use Rattle.lent_receiver.specs.Receiving.{referenceIn, receiverIn, present, stateByte, receiverOut, answerBytes, freshNumber, freshState, atMost7, callNumber, callState, callAnswer, numberOut, handedNumber, handedState, handedAnswer, blockNumber, blockState, blockLine, blockPlain};
+ghost use Rattle.lent_receiver.specs.Receiving.{referenceIn, receiverIn, present, stateByte, receiverOut, answerBytes, freshNumber, freshState, atMost7, callNumber, callState, callAnswer, blockNumber, blockState, blockLine, blockPlain};
+ghost use Rattle.lent_receiver.specs.Handing.{numberOut, handedNumber, handedState, handedAnswer};
 use bulk::Block;
 use receiver::Intervals;
 use receiver::Outcome;
@@ -178,13 +179,13 @@ fn hand_back(state: &mut [u8], answer: &mut [u8], o: Outcome) -> u8
 pub fn fresh(state: &mut [u8], mode: u8, role: u8) -> u8
     ensures { λ r. ⌜ (r ≡ freshNumber (now (state .entry)) mode role) × (now (state .exit) ≡ freshState (now (state .entry)) mode role) ⌝ }
 {
+    if state.len() < 16 {
+        return line::or_next(line::mode_fault(mode, role), 7);
+    }
     let started = receiver::fresh(mode, role);
     match started {
         Started::Refused(n) => n,
         Started::Ready(s) => {
-            if state.len() < 16 {
-                return 7;
-            }
             put_receiver(state, s);
             0
         }

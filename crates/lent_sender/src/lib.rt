@@ -1,7 +1,9 @@
 // The sender's calls over lent bytes and numbers, for callers in C and Rust. The layouts stand in specs/ and in include/kerambiu.h.
 ghost use mathlib.Core.Path.{_≡_};
 ghost use lib.ListN.{getD};
-ghost use Rattle.lent_sender.specs.Sending.{sentReference, senderIn, senderOut, openNumber, openState, openOut, sendNumber, sendState, sendOut, sentNumber, sentState};
+ghost use Rattle.sender.specs.Sender.{numberOf};
+ghost use Rattle.lent_sender.specs.Sending.{sentReference, senderIn, senderOut, openNumber, openState, openOut, sendNumber, sendState, sendOut};
+ghost use Rattle.lent_sender.specs.Putting.{sentState};
 use octets::get8;
 use octets::get32;
 use octets::put_all;
@@ -21,9 +23,8 @@ fn byte_at(s: &[u8], at: usize) -> u8
 fn load_sent_reference(s: &[u8]) -> u8
     ensures { λ r. ⌜ r ≡ sentReference (now (s .entry)) ⌝ }
 {
-    let clear = (byte_at(s, 9) == 0)
-        & ((byte_at(s, 10) == 0) & ((byte_at(s, 11) == 0) & (get32(s, 12) == 0)));
-    if (byte_at(s, 3) == 0) & clear {
+    let clear = (byte_at(s, 9) == 0) & ((byte_at(s, 10) == 0) & (byte_at(s, 11) == 0));
+    if (byte_at(s, 3) == 0) & (clear & (get32(s, 12) == 0)) {
         return byte_at(s, 2);
     }
     255
@@ -69,7 +70,7 @@ fn sender_bytes(s: Sender) -> [u8; 16]
 
 // Writes the state that a call hands back: 0, or the number that refuses the call.
 fn put_sent(state: &mut [u8], sent: Sent) -> u8
-    ensures { λ r. ⌜ (r ≡ sentNumber sent) × (now (state .exit) ≡ sentState sent (now (state .entry))) ⌝ }
+    ensures { λ r. ⌜ (r ≡ numberOf sent) × (now (state .exit) ≡ sentState sent (now (state .entry))) ⌝ }
 {
     match sent {
         Sent::Refused(n) => n,
@@ -82,15 +83,15 @@ fn put_sent(state: &mut [u8], sent: Sent) -> u8
 
 // ---- the calls
 
-// Opens a sender: its training stands in `out` from `offset` on. 0, or the number that refuses it. Without room for the state
-// the offset is one past the end of `out`, so that number 7 is left where no lower one applies.
+// Opens a sender: its training stands in `out` from `offset` on. 0, or the number that refuses it.
 pub fn open(state: &mut [u8], mode: u8, role: u8, length: u32, out: &mut [i16], offset: usize) -> u8
     ensures { λ r. ⌜ (r ≡ openNumber (now (state .entry)) mode role length (now (out .entry)) offset) × (now (state .exit) ≡ openState (now (state .entry)) mode role length (now (out .entry)) offset) × (now (out .exit) ≡ openOut (now (state .entry)) mode role length (now (out .entry)) offset) ⌝ }
 {
     if state.len() < 16 {
-        let past = out.len() + 1;
-        let refused = sender::open(mode, role, length, out, past);
-        return put_sent(state, refused);
+        return line::or_next(
+            sender::open_refusal(mode, role, length, out.len(), offset),
+            7,
+        );
     }
     let sent = sender::open(mode, role, length, out, offset);
     put_sent(state, sent)
@@ -101,7 +102,7 @@ pub fn send(state: &mut [u8], input: &[u8], out: &mut [i16], offset: usize) -> u
     ensures { λ r. ⌜ (r ≡ sendNumber (now (state .entry)) (now (input .entry)) (now (out .entry)) offset) × (now (state .exit) ≡ sendState (now (state .entry)) (now (input .entry)) (now (out .entry)) offset) × (now (out .exit) ≡ sendOut (now (state .entry)) (now (input .entry)) (now (out .entry)) offset) ⌝ }
 {
     if state.len() < 16 {
-        return 7;
+        return line::need(sender::are_bits(input), 5, 7);
     }
     let sent = sender::send(load_sender(state), input, out, offset);
     put_sent(state, sent)

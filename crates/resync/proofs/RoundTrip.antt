@@ -8,7 +8,7 @@ use Rattle.line.specs.Table.{All}
 use Rattle.line.specs.Mode.{isState, width}
 use Rattle.line.specs.Refusal.{accepted}
 use Rattle.line.proofs.TableLaws.{and-intro}
-use Rattle.coding.proofs.ModeLaws.{OfState, of-state}
+use Rattle.line.proofs.StateLaws.{OfState, of-state}
 use Rattle.deciding.specs.declared.Decision.{Decision}
 use Rattle.scrambler.specs.declared.Register.{Register}
 use Rattle.scrambler.specs.Register.{registerOk, pushes}
@@ -30,10 +30,10 @@ use Rattle.sender.specs.Calls.{Send, DataPoint, answer, handedOn, dataOf, dataP
 use Rattle.sender.proofs.RefusalLaws.{StateOk, send-ok}
 use Rattle.sender.proofs.StateLaws.{can-send, whole-length}
 use Rattle.sender.proofs.JoinLaws.{after-append, accepted-call}
-use Rattle.sender.proofs.DataLaws.{Made, made, pointsOf, data-sent, group-read, group-line, decided-made}
+use Rattle.sender.proofs.DataLaws.{Made, made, pointsOf, data-sent}
 use Rattle.resync.specs.DataPoints.{received}
 use Rattle.resync.specs.RoundTrip.{senderAfter, bitsOf, givenTo, listening, RoundTrip}
-use Rattle.resync.proofs.SenderLaws.{statesOf, groupsOf, states-same, line-sent, data-given, made-on}
+use Rattle.resync.proofs.SenderLaws.{group-read, group-line, decided-made, statesOf, groupsOf, states-same, line-sent, data-given, made-on}
 
 -- THE RECEIVER GOES ALONG
 

@@ -35,7 +35,7 @@ use Rattle.resync.specs.DataPoints.{received}
 
 -- a group is read back
 module _ (s : Sender) (g : List ℕ) (k : StateOk s) (l : length g ≡ width (s .mode)) where
-  group-read : bits (width (s .mode)) (group (s .mode) (face (s .mode) (s .reference)) (afterGroup s g .reference)) ≡ scramble (s .mode) (s .role) (s .line) g
+  pub group-read : bits (width (s .mode)) (group (s .mode) (face (s .mode) (s .reference)) (afterGroup s g .reference)) ≡ scramble (s .mode) (s .role) (s .line) g
   unfolding afterGroup coding
   group-read =
       let b : List ℕ = scramble (s .mode) (s .role) (s .line) g in
@@ -48,7 +48,7 @@ module _ (s : Sender) (g : List ℕ) (k : StateOk s) (l : length g ≡ width (s 
   group-decided =
       decided-sent (s .mode) _ (k .mode) (lands (s .mode) (s .role) (coderOf s) g (k .mode) (can-send s (k .fields)) l .lands)
 
-  group-line : afterGroup s g .line ≡ pushes (s .mode) (s .line) (scramble (s .mode) (s .role) (s .line) g)
+  pub group-line : afterGroup s g .line ≡ pushes (s .mode) (s .line) (scramble (s .mode) (s .role) (s .line) g)
   unfolding afterGroup coding
   group-line = refl
 

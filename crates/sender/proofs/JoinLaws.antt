@@ -1,18 +1,18 @@
 -- Sending two inputs one after the other writes what sending them together writes. Assumes nothing.
 use Prim.Native.Nat.{ℕ, zero, suc, _+_, _*_, _/_, _%_, _<_, _≤_}
 use mathlib.Core.Path.{_≡_, refl, sym, _∙_, ap, ap₂, subst}
-use mathlib.Core.Bool.{Bool, true, false, _&&_}
+use mathlib.Core.Bool.{Bool, true}
 use mathlib.Core.List.{List, [], _∷_, _++_}
-use native.Mathlib.Nat.{zero-add, zero-mul, suc-add, suc-mul, suc-ne-zero, add-zero, add-suc, mul-add-div-right, mul-add-mod-self-right}
+use native.Mathlib.Nat.{zero-add, zero-mul, suc-add, suc-mul, suc-ne-zero, mul-add-div-right, mul-add-mod-self-right}
 use native.Mathlib.Omega.{arith}
 use borrow.Author.Tests.{eq-eqb, le-leb}
 use lib.Dec.{T, eqb, leb}
 use lib.IntN.{ℤ}
-use lib.ListN.{length, take, drop, set, length-drop, length-append}
+use lib.ListN.{length, drop, length-drop, length-append}
 use lib.Seq.{sets, length-sets, take-append-le, drop-append-le}
 use Rattle.line.specs.Table.{every}
 use Rattle.line.specs.Mode.{width}
-use Rattle.line.specs.Refusal.{need, orNext, accepted}
+use Rattle.line.specs.Refusal.{orNext, accepted}
 use Rattle.line.proofs.ByMode.{width-range}
 use Rattle.line.proofs.TableLaws.{and-left, and-right, and-intro}
 use Rattle.line.proofs.RefusalLaws.{need-intro}
@@ -22,6 +22,7 @@ use Rattle.sender.specs.declared.Sender.{Sender}
 use Rattle.sender.specs.declared.Sent.{Sent}
 use Rattle.sender.specs.declared.Sent.the-variants.{Refused, Ready}
 use Rattle.sender.specs.Sender.{hasRoom, dataRefusal, sendRefusal, groups, grouped, afterGroup, afterGroups, sentStates, sendAnswer, sendNumbers}
+use Rattle.sender.specs.Calls.{SentTogether}
 use Rattle.sender.proofs.RefusalLaws.{StateOk, DataOk, send-ok}
 use Rattle.sender.proofs.SendLaws.{group-mode}
 use Rattle.sender.proofs.StateLaws.{state-met, whole-length}
@@ -124,11 +125,7 @@ unfolding sendNumbers
 numbers-met s ds out offset z = rw z
 
 -- the second call goes on where the first one ended
-pub sent-together : (s t u : Sender) (ds es : List ℕ) (out : List ℤ) (offset : ℕ)
-    → sendAnswer s ds (length out) offset ≡ Ready t
-    → sendAnswer t es (length (sendNumbers s ds out offset)) (offset + 2 * (length ds / width (s .mode))) ≡ Ready u
-    → (sendAnswer s (ds ++ es) (length out) offset ≡ Ready u)
-    × (sendNumbers s (ds ++ es) out offset ≡ sendNumbers t es (sendNumbers s ds out offset) (offset + 2 * (length ds / width (s .mode))))
+pub sent-together : SentTogether
 sent-together s t u ds es out offset p q =
     let w : ℕ = width (s .mode) in
     let a = accepted-call s ds (length out) offset t p in

@@ -1,4 +1,5 @@
 pub mod RefusalLaws
+pub mod AnswerLaws
 pub mod SendLaws
 pub mod OpenLaws
 pub mod StateLaws

@@ -1,30 +1,28 @@
 -- Writing training: one turn of the loop, and what no refusal of opening says. Assumes nothing.
-use Prim.Native.Nat.{ℕ, zero, suc, _+_, _*_, _-_, _<_, _≤_}
-use mathlib.Core.Path.{_≡_, refl, sym, _∙_, ap, ap₂, subst}
-use mathlib.Core.List.{List, [], _∷_}
+use Prim.Native.Nat.{ℕ, suc, _+_, _*_, _-_, _<_, _≤_}
+use mathlib.Core.Path.{_≡_, refl, sym, _∙_, ap, ap₂}
+use mathlib.Core.List.{List, _∷_}
 use native.Mathlib.Numerals.{add-one}
 use native.Mathlib.Nat.{sub-zero}
 use native.Mathlib.Omega.{arith}
 use lib.Dec.{T, leb→le}
 use lib.IntN.{ℤ}
-use lib.ListN.{length, take, drop, set, length-set}
-use borrow.Rule.Slice.PartMut.{putMid}
+use lib.ListN.{length, set, length-set}
 use lib.Seq.{sets}
 use Rattle.line.specs.Mode.{isMode, isRole}
-use Rattle.line.specs.Refusal.{need}
+use Rattle.line.specs.Refusal.{modeRefusal}
 use Rattle.line.specs.Point.{sentPoint}
-use Rattle.line.proofs.RefusalLaws.{need-met, need-rest}
+use Rattle.line.proofs.RefusalLaws.{need-met, need-rest, next-first, next-rest}
 use Rattle.training.specs.declared.Coder.{Coder}
 use Rattle.training.specs.Coder.{numbers}
 use Rattle.training.specs.Training.{train, start, intervals, trained, trainedStates}
 use Rattle.training.specs.Middle.{MiddleTable}
 use Rattle.training.specs.Ahead.{ahead, aheadStart}
-use Rattle.training.proofs.AheadLaws.{sentBy, by-table}
-use Rattle.sender.specs.Sender.{senderOf, hasRoom}
-use Rattle.sender.specs.Open.{lengthOk, openRefusal, opened, trainingNumbers, openAnswer, openNumbers}
-use Rattle.sender.specs.declared.Sent.the-variants.{Refused, Ready}
-use Rattle.sender.proofs.RefusalLaws.{is-refused, is-accepted}
-use Rattle.sender.proofs.SendLaws.{point-step, sets-part, part-length}
+use Rattle.training.proofs.AheadLaws.{by-table}
+use Rattle.sender.specs.Sender.{hasRoom}
+use Rattle.sender.specs.Open.{lengthOk, openRefusal, trainingNumbers}
+use Rattle.sender.proofs.RefusalLaws.{mode-met}
+use Rattle.sender.proofs.SendLaws.{point-step}
 
 -- what is left of n intervals by a rule
 pub record TrainingLeft (f : ℕ → Coder → Coder) (m n : ℕ) (c₀ : Coder) (out₀ : List ℤ) (c : Coder) (out : List ℤ) (i : ℕ) : Type 0 where
@@ -83,34 +81,11 @@ pub record OpenOk (m role n lent offset : ℕ) : Type 0 where
 pub open-ok : (m role n lent offset : ℕ) → openRefusal m role n lent offset ≡ 0 → OpenOk m role n lent offset
 unfolding openRefusal hasRoom
 open-ok m role n lent offset z =
-    let z₂ = need-rest (isMode m) 0 _ z in
-    let z₃ = need-rest (isRole m role) 1 _ z₂ in
+    let k = mode-met m role (next-first (modeRefusal m role) _ z) in
+    let z₃ = next-rest (modeRefusal m role) _ z in
     record {
-      mode = need-met (isMode m) 0 _ z;
-      role-of = need-met (isRole m role) 1 _ z₂;
+      mode = k .0;
+      role-of = k .1;
       length-of = need-met (lengthOk m n) 2 _ z₃;
       room = leb→le _ _ (need-met (hasRoom (intervals m n) lent offset) 6 0 (need-rest (lengthOk m n) 2 _ z₃));
     }
-
--- WHAT OPENING ANSWERS AND WRITES
-
-module _ (m role n : ℕ) (out : List ℤ) (off r : ℕ) (e : r ≡ openRefusal m role n (length out) off) where
-  pub open-refused : (r ≡ 0 → ⊥) → (Refused r ≡ openAnswer m role n (length out) off) × (out ≡ openNumbers m role n out off)
-  unfolding openAnswer openNumbers
-  open-refused f = (ap Refused e ∙ is-refused r _ _ _ e f, is-refused r _ _ _ e f)
-
-  pub open-accepted : r ≡ 0 → OpenOk m role n (length out) off
-  open-accepted f = open-ok m role n (length out) off (sym e ∙ f)
-
-  pub open-room : r ≡ 0 → 2 * intervals m n ≤ length (take (length out - off) (drop off out))
-  open-room f = let z = open-accepted f .room in rw (part-length out off) (omega arith)
-
-  pub opened-law : (c : Coder) (xs : List ℤ) → r ≡ 0 → c ≡ trained (train m role n) 0 (intervals m n) (start m)
-      → xs ≡ sets (take (length out - off) (drop off out)) 0 (trainingNumbers m role n)
-      → (Ready (senderOf m role c) ≡ openAnswer m role n (length out) off) × (putMid off (length out - off) out xs ≡ openNumbers m role n out off)
-  unfolding openAnswer openNumbers opened
-  opened-law c xs f ec ex =
-      let z = open-accepted f .room in (
-        is-accepted r _ _ _ _ e f (ap (λ (x : Coder). Ready (senderOf m role x)) ec),
-        is-accepted r _ _ _ _ e f (ap (putMid off (length out - off) out) ex ∙ sets-part out off (trainingNumbers m role n) (omega arith)),
-      )

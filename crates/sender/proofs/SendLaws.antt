@@ -1,17 +1,15 @@
 -- Sending groups: one turn of the point writer's loop, and what a lent part becomes. Assumes nothing.
-use Prim.Native.Nat.{ℕ, zero, suc, _+_, _*_, _-_, _/_, _%_, _<_, _≤_}
+use Prim.Native.Nat.{ℕ, zero, suc, _+_, _*_, _-_, _%_, _<_, _≤_}
 use mathlib.Core.Path.{_≡_, refl, sym, _∙_, ap, ap₂}
 use mathlib.Core.Bool.{Bool}
-use mathlib.Core.List.{List, [], _∷_, _++_, append-nil}
+use mathlib.Core.List.{List, [], _∷_}
 use native.Mathlib.Numerals.{sub-one, towards-suc}
-use native.Mathlib.Nat.{suc-mul, lt-irrefl, not-suc-le-zero, le-of-suc-le-suc, add-sub-cancel-left}
+use native.Mathlib.Nat.{suc-mul, lt-irrefl, add-sub-cancel-left}
 use native.Mathlib.Omega.{arith}
-use borrow.Rule.Slice.PartMut.{putMid, post-is}
-use borrow.Rule.Slice.PartAt.{part-to-end}
 use lib.Dec.{T, ltb, ltb→lt}
 use lib.IntN.{ℤ, pos}
 use lib.ListN.{length, getD, take, drop, set, length-set, length-take, length-drop}
-use lib.Seq.{drop-drop, drop-length, sets}
+use lib.Seq.{drop-drop, sets}
 use Rattle.line.specs.Table.{every}
 use Rattle.line.specs.Mode.{width, face}
 use Rattle.coding.specs.Code.{coded}
@@ -27,9 +25,7 @@ use Rattle.scrambler.proofs.BitLaws.{bits-value}
 use Rattle.training.specs.Coder.{numbers}
 use Rattle.training.proofs.CoderLaws.{code-law}
 use Rattle.sender.specs.declared.Sender.{Sender}
-use Rattle.sender.specs.Sender.{coderOf, senderOf, groups, grouped, afterGroup, afterGroups, sentStates, sendRefusal, sendAnswer, sendNumbers}
-use Rattle.sender.specs.declared.Sent.the-variants.{Refused, Ready}
-use Rattle.sender.proofs.RefusalLaws.{is-refused, is-accepted, DataOk, send-ok}
+use Rattle.sender.specs.Sender.{coderOf, senderOf, groups, afterGroup, afterGroups, sentStates}
 
 -- BITS
 
@@ -166,46 +162,3 @@ module _ (m w : ℕ) (ds : List ℕ) (t₀ : Sender) (n : ℕ) (out₀ : List �
 
   pub wrote-all : left ≡ 0 → out ≡ sets out₀ 0 (numbers m (sentStates t₀ (groups w n ds)))
   wrote-all e = sym (ap (λ (gs : List (List ℕ)). sets out k (numbers m (sentStates t gs))) (none-left e)) ∙ i .written
-
--- A LENT PART
-
-sets-cons : {X : Type 0} (x : X) (l : List X) (i : ℕ) (vs : List X) → sets (x ∷ l) (suc i) vs ≡ x ∷ sets l i vs
-sets-cons x l i [] = refl
-sets-cons x l i (v ∷ vs) = sets-cons x (set l i v) (suc i) vs
-
-sets-drop : {X : Type 0} (l : List X) (a : ℕ) (vs : List X) → a ≤ length l → take a l ++ sets (drop a l) 0 vs ≡ sets l a vs
-sets-drop l zero vs h = refl
-sets-drop [] (suc a) vs h = absurd (not-suc-le-zero h)
-sets-drop (x ∷ l) (suc a) vs h = rw (sets-drop l a vs (le-of-suc-le-suc h), sets-cons)
-
--- what is written from the front of a part is written in the whole from there on
-pub sets-part : {X : Type 0} (l : List X) (a : ℕ) (vs : List X) → a ≤ length l
-    → putMid a (length l - a) l (sets (take (length l - a) (drop a l)) 0 vs) ≡ sets l a vs
-sets-part l a vs h = rw (part-to-end l a, post-is a (length l) l h, drop-length l, append-nil (sets (drop a l) 0 vs)) (sets-drop l a vs h)
-
-pub part-length : {X : Type 0} (l : List X) (a : ℕ) → length (take (length l - a) (drop a l)) ≡ length l - a
-part-length l a = rw (part-to-end l a, length-drop)
-
--- WHAT SENDING ANSWERS AND WRITES
-
-module _ (s : Sender) (ds : List ℕ) (out : List ℤ) (off r : ℕ) (e : r ≡ sendRefusal s ds (length out) off) where
-  pub send-refused : (r ≡ 0 → ⊥) → (Refused r ≡ sendAnswer s ds (length out) off) × (out ≡ sendNumbers s ds out off)
-  unfolding sendAnswer sendNumbers
-  send-refused f = (ap Refused e ∙ is-refused r _ _ _ e f, is-refused r _ _ _ e f)
-
-  pub send-accepted : r ≡ 0 → DataOk (s .mode) ds (length out) off
-  send-accepted f = send-ok s ds (length out) off (sym e ∙ f) .1
-
-  pub send-room : r ≡ 0 → T (every isBit ds) × (2 * (length ds / width (s .mode)) ≤ length (take (length out - off) (drop off out)))
-  send-room f = let z = send-accepted f .room in (send-accepted f .are-bits, rw (part-length out off) (omega arith))
-
-  pub sent-law : (t : Sender) (xs : List ℤ) → r ≡ 0 → t ≡ afterGroups s (grouped (width (s .mode)) ds)
-      → xs ≡ sets (take (length out - off) (drop off out)) 0 (numbers (s .mode) (sentStates s (grouped (width (s .mode)) ds)))
-      → (Ready t ≡ sendAnswer s ds (length out) off) × (putMid off (length out - off) out xs ≡ sendNumbers s ds out off)
-  unfolding sendAnswer sendNumbers
-  sent-law t xs f et ex =
-      let z = send-accepted f .room in (
-        is-accepted r _ _ _ _ e f (ap Ready et),
-        is-accepted r _ _ _ _ e f
-            (ap (putMid off (length out - off) out) ex ∙ sets-part out off (numbers (s .mode) (sentStates s (grouped (width (s .mode)) ds))) (omega arith)),
-      )

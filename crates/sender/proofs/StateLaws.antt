@@ -1,30 +1,30 @@
 -- What opening and sending hand back passes numbers 1, 2 and 4. Assumes nothing.
-use Prim.Native.Nat.{ℕ, zero, suc, _+_, _*_, _/_, _%_, _≤_}
+use Prim.Native.Nat.{ℕ, zero, suc, _+_, _*_, _/_, _%_}
 use mathlib.Core.Path.{_≡_, refl, sym, _∙_, ap, subst}
-use mathlib.Core.Bool.{Bool, true, false, _&&_}
+use mathlib.Core.Bool.{Bool, _&&_}
 use mathlib.Core.List.{List, [], _∷_}
-use native.Mathlib.Nat.{div-add-mod', add-zero, le-of-eq}
+use native.Mathlib.Nat.{div-add-mod', add-zero}
 use native.Mathlib.Omega.{arith}
 use borrow.Author.Tests.{eq-eqb}
 use lib.Dec.{T, eqb, eqb→eq}
-use lib.ListN.{length, take, drop, length-take, length-drop}
+use lib.ListN.{length, drop, length-take, length-drop}
 use Rattle.line.specs.Table.{every}
 use Rattle.line.specs.Mode.{isMode, isRole, isState, width, capacity}
-use Rattle.line.specs.Refusal.{need, accepted}
+use Rattle.line.specs.Refusal.{need, orNext, modeRefusal}
 use Rattle.line.proofs.TableLaws.{and-left, and-right, and-intro}
 use Rattle.line.proofs.RefusalLaws.{need-intro}
 use Rattle.scrambler.specs.Bits.{isBit}
 use Rattle.scrambler.specs.Register.{registerOk}
 use Rattle.scrambler.proofs.RegisterLaws.{ok, passes}
 use Rattle.training.specs.declared.Coder.{Coder}
-use Rattle.training.specs.Coder.{coding}
 use Rattle.training.proofs.CoderLaws.{Ready as CanSend, ready-coding}
 use Rattle.training.proofs.TrainingLaws.{ready-trained}
 use Rattle.sender.specs.declared.Sender.{Sender}
 use Rattle.sender.specs.declared.Sent.{Sent}
-use Rattle.sender.specs.declared.Sent.the-variants.{Refused, Ready}
-use Rattle.sender.specs.Sender.{coderOf, senderOf, fieldsOk, stateRefusal, groups, grouped, afterGroup, afterGroups, sendRefusal, sendAnswer}
+use Rattle.sender.specs.declared.Sent.the-variants.{Ready}
+use Rattle.sender.specs.Sender.{coderOf, senderOf, fieldsOk, stateRefusal, groups, grouped, afterGroup, afterGroups, sendRefusal, answered, sendAnswer}
 use Rattle.sender.specs.Open.{openRefusal, opened, openAnswer}
+use Rattle.sender.specs.Calls.{Passes, OpenedPasses, SentPasses}
 use Rattle.sender.proofs.RefusalLaws.{StateOk, state-ok, DataOk, send-ok}
 use Rattle.sender.proofs.SendLaws.{every-take, every-drop, group-mode}
 use Rattle.sender.proofs.OpenLaws.{open-ok}
@@ -49,9 +49,11 @@ fields-pass m role c k =
     (and-intro (eqb (c .line .held .0) (capacity m)) _ (subst T (sym (eq-eqb (c .line .held .0) (capacity m) (k .full))) tt) (passes m (c .line) (k .fit)))
 
 state-passes : (m role : ℕ) (c : Coder) → T (isMode m) → T (isRole m role) → CanSend m c → stateRefusal (senderOf m role c) ≡ 0
-unfolding stateRefusal
+unfolding stateRefusal modeRefusal
 state-passes m role c hm hr k =
-    need-intro (isMode m) 1 _ hm (need-intro (isRole m role) 2 _ hr (need-intro (fieldsOk (senderOf m role c)) 4 _ (fields-pass m role c k) refl))
+    let r : ℕ = need (fieldsOk (senderOf m role c)) 4 0 in
+    ap (λ (n : ℕ). orNext n r) (need-intro (isMode m) 1 _ hm (need-intro (isRole m role) 2 _ hr refl))
+    ∙ need-intro (fieldsOk (senderOf m role c)) 4 _ (fields-pass m role c k) refl
 
 -- WHOLE GROUPS
 
@@ -91,22 +93,17 @@ groups-pass s (g ∷ gs) z w =
 pub state-met : (s : Sender) → StateOk s → stateRefusal s ≡ 0
 state-met s k = state-passes (s .mode) (s .role) (coderOf s) (k .mode) (k .role) (can-send s (k .fields))
 
--- what an answer hands back passes numbers 1, 2 and 4
-abbrev pub Passes : Sent → Type 0
-Passes (Refused n) = Unit {0}
-Passes (Ready t) = stateRefusal t ≡ 0
-
-passes-if : (n : ℕ) (t : Sender) → (n ≡ 0 → stateRefusal t ≡ 0) → Passes (accepted n (Ready t) (Refused n))
+passes-if : (n : ℕ) (t : Sender) → (n ≡ 0 → stateRefusal t ≡ 0) → Passes (answered n t)
 passes-if zero t f = f refl
 passes-if (suc n) t f = tt
 
-pub opened-passes : (m role n lent offset : ℕ) → Passes (openAnswer m role n lent offset)
+pub opened-passes : OpenedPasses
 unfolding openAnswer opened
 opened-passes m role n lent offset =
     passes-if (openRefusal m role n lent offset) _ (λ z. let k = open-ok m role n lent offset z in
     state-passes m role _ (k .mode) (k .role-of) (ready-trained m role n (k .mode)))
 
-pub sent-passes : (s : Sender) (ds : List ℕ) (lent offset : ℕ) → Passes (sendAnswer s ds lent offset)
+pub sent-passes : SentPasses
 unfolding sendAnswer
 sent-passes s ds lent offset =
     passes-if (sendRefusal s ds lent offset) _ (λ z. let k = send-ok s ds lent offset z in

@@ -6,14 +6,13 @@ use lib.Dec.{leb}
 use lib.IntN.{ℤ}
 use lib.ListN.{length}
 use lib.Seq.{sets}
-use Rattle.line.specs.Mode.{byMode, isMode, isRole}
-use Rattle.line.specs.Refusal.{need, accepted}
+use Rattle.line.specs.Mode.{byMode}
+use Rattle.line.specs.Refusal.{need, orNext, accepted, modeRefusal}
 use Rattle.training.specs.Coder.{numbers}
 use Rattle.training.specs.Training.{train, start, intervals, trained, trainedStates}
 use Rattle.sender.specs.declared.Sender.{Sender}
 use Rattle.sender.specs.declared.Sent.{Sent}
-use Rattle.sender.specs.declared.Sent.the-variants.{Refused, Ready}
-use Rattle.sender.specs.Sender.{senderOf, hasRoom}
+use Rattle.sender.specs.Sender.{senderOf, hasRoom, answered}
 
 -- number 3: "training length not 0 or 1 (modes 1 and 2), not 1280 to 8192 (3 and 4)"
 unfoldable pub lengthOk : ℕ → ℕ → Bool
@@ -24,7 +23,7 @@ lengthOk m n =
 
 unfoldable pub openRefusal : ℕ → ℕ → ℕ → ℕ → ℕ → ℕ
 openRefusal m role n lent offset =
-    need (isMode m) 1 (need (isRole m role) 2 (need (lengthOk m n) 3 (need (hasRoom (intervals m n) lent offset) 7 0)))
+    orNext (modeRefusal m role) (need (lengthOk m n) 3 (need (hasRoom (intervals m n) lent offset) 7 0))
 
 -- "its last state is the reference and the register runs on"
 unfoldable pub opened : ℕ → ℕ → ℕ → Sender
@@ -35,9 +34,7 @@ unfoldable pub trainingNumbers : ℕ → ℕ → ℕ → List ℤ
 trainingNumbers m role n = numbers m (trainedStates (train m role n) 0 (intervals m n) (start m))
 
 unfoldable pub openAnswer : ℕ → ℕ → ℕ → ℕ → ℕ → Sent
-openAnswer m role n lent offset =
-    let r : ℕ = openRefusal m role n lent offset in
-    accepted r (Ready (opened m role n)) (Refused r)
+openAnswer m role n lent offset = answered (openRefusal m role n lent offset) (opened m role n)
 
 unfoldable pub openNumbers : ℕ → ℕ → ℕ → List ℤ → ℕ → List ℤ
 openNumbers m role n out offset = accepted (openRefusal m role n (length out) offset) (sets out offset (trainingNumbers m role n)) out

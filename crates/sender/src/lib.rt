@@ -1,17 +1,15 @@
 // The sender: opening writes training, sending writes the points of data bits. Document 01, "Sender".
 ghost use mathlib.Core.Path.{_≡_};
-ghost use mathlib.Core.List.{List};
-ghost use Prim.Native.Nat.{ℕ, _*_, _/_, _≤_, _<_};
+ghost use Prim.Native.Nat.{_*_, _/_, _≤_, _<_};
 ghost use lib.Dec.{T};
 ghost use lib.ListN.{length as size};
 ghost use lib.Seq.{sets};
 ghost use Rattle.line.specs.Table.{every};
 ghost use Rattle.line.specs.Mode.{width};
 ghost use Rattle.scrambler.specs.Bits.{isBit, bits, value};
-ghost use Rattle.training.specs.Coder.{numbers};
 ghost use Rattle.training.specs.Training.{train, start, intervals, trained};
-ghost use Rattle.sender.specs.Sender.{fieldsOk, stateRefusal, hasRoom, dataRefusal, sendRefusal, grouped, afterGroup, afterGroups, sentStates, sendAnswer, sendNumbers};
-ghost use Rattle.sender.specs.Open.{lengthOk, openRefusal, trainingNumbers, openAnswer, openNumbers};
+ghost use Rattle.sender.specs.Sender.{fieldsOk, stateRefusal, hasRoom, dataRefusal, sendRefusal, afterGroup, afterBits, bitNumbers, sendAnswer, sendNumbers, Told};
+ghost use Rattle.sender.specs.Open.{lengthOk, openRefusal, opened, trainingNumbers, openAnswer, openNumbers};
 
 // What a sending call needs and hands on.
 pub struct Sender {
@@ -32,40 +30,28 @@ fn fields_ok(s: Sender) -> bool
     ensures { λ r. ⌜ r ≡ fieldsOk s ⌝ }
 {
     let register = s.line;
-    let held = register.held;
-    if !line::state_ok(s.mode, s.reference) {
-        return false;
-    }
-    if held.0 != line::capacity_of(s.mode) {
-        return false;
-    }
-    scrambler::register_ok(s.mode, register)
+    let full = register.held.0 == line::capacity_of(s.mode);
+    line::state_ok(s.mode, s.reference) & (full & scrambler::register_ok(s.mode, register))
 }
 
 // Numbers 1, 2 and 4, or 0.
 fn state_refusal(s: Sender) -> u8
     ensures { λ r. ⌜ r ≡ stateRefusal s ⌝ }
 {
-    if !line::mode_ok(s.mode) {
-        return 1;
-    }
-    if !line::role_ok(s.mode, s.role) {
-        return 2;
-    }
-    if !fields_ok(s) {
-        return 4;
-    }
-    0
+    line::or_next(
+        line::mode_fault(s.mode, s.role),
+        line::need(fields_ok(s), 4, 0),
+    )
 }
 
 // Whether each byte is a bit. All are read, even after one that is not, so that many can be tested at once.
-fn are_bits(input: &[u8]) -> bool
+pub fn are_bits(input: &[u8]) -> bool
     ensures { λ r. ⌜ r ≡ every isBit (now (input .entry)) ⌝ }
 {
     let mut all = true;
     let mut i = 0;
     while i < input.len() {
-        all = all & (input[i] <= 1);
+        all = all & (input[i] < 2);
         i += 1;
     }
     all
@@ -85,28 +71,20 @@ fn has_room(points: usize, len: usize, offset: usize) -> bool
 fn data_refusal(mode: u8, input: &[u8], len: usize, offset: usize) -> u8
     ensures { λ r. ⌜ r ≡ dataRefusal mode (now (input .entry)) len offset ⌝ }
 {
-    if !are_bits(input) {
-        return 5;
-    }
     let w = line::width_of(mode) as usize;
-    if input.len() % w != 0 {
-        return 6;
-    }
-    if !has_room(input.len() / w, len, offset) {
-        return 7;
-    }
-    0
+    let room = line::need(has_room(input.len() / w, len, offset), 7, 0);
+    line::need(
+        are_bits(input),
+        5,
+        line::need(input.len() % w == 0, 6, room),
+    )
 }
 
 // The lowest number that applies to a sending call, or 0.
 fn send_refusal(s: Sender, input: &[u8], len: usize, offset: usize) -> u8
     ensures { λ r. ⌜ r ≡ sendRefusal s (now (input .entry)) len offset ⌝ }
 {
-    let n = state_refusal(s);
-    if n != 0 {
-        return n;
-    }
-    data_refusal(s.mode, input, len, offset)
+    line::or_next(state_refusal(s), data_refusal(s.mode, input, len, offset))
 }
 
 // The bits of a group as a number, the first highest.
@@ -144,8 +122,7 @@ fn send_group(s: Sender, plain: u8) -> Sender
 // The point writer: the points of whole groups, from the front of `out`.
 fn write_points(s: Sender, input: &[u8], out: &mut [i16]) -> Sender
     requires { ⌜ T (every isBit (now input)) × (2 * (size (now input) / width (s .mode)) ≤ size (now out)) ⌝ }
-    ensures { λ r. ⌜ (r ≡ afterGroups s (grouped (width (s .mode)) (now (input .entry))))
-        × (now (out .exit) ≡ sets (now (out .entry)) 0 (numbers (s .mode) (sentStates s (grouped (width (s .mode)) (now (input .entry)))))) ⌝ }
+    ensures { λ r. ⌜ (r ≡ afterBits s (now (input .entry))) × (now (out .exit) ≡ sets (now (out .entry)) 0 (bitNumbers s (now (input .entry)))) ⌝ }
 {
     let mode = s.mode;
     let w = line::width_of(mode) as usize;
@@ -174,6 +151,7 @@ fn write_points(s: Sender, input: &[u8], out: &mut [i16]) -> Sender
 pub fn send(s: Sender, input: &[u8], out: &mut [i16], offset: usize) -> Sent
     ensures { λ r. ⌜ r ≡ sendAnswer s (now (input .entry)) (size (now (out .entry))) offset ⌝ }
     ensures { λ r. ⌜ now (out .exit) ≡ sendNumbers s (now (input .entry)) (now (out .entry)) offset ⌝ }
+    ensures { λ r. ⌜ Told (sendRefusal s (now (input .entry)) (size (now (out .entry))) offset) (afterBits s (now (input .entry))) r ⌝ }
 {
     let n = send_refusal(s, input, out.len(), offset);
     if n != 0 {
@@ -195,22 +173,18 @@ fn length_ok(mode: u8, length: u32) -> bool
 }
 
 // The lowest number that applies to opening, or 0.
-fn open_refusal(mode: u8, role: u8, length: u32, len: usize, offset: usize) -> u8
+pub fn open_refusal(mode: u8, role: u8, length: u32, len: usize, offset: usize) -> u8
     ensures { λ r. ⌜ r ≡ openRefusal mode role length len offset ⌝ }
 {
-    if !line::mode_ok(mode) {
-        return 1;
-    }
-    if !line::role_ok(mode, role) {
-        return 2;
-    }
-    if !length_ok(mode, length) {
-        return 3;
-    }
-    if !has_room(training::interval_count(mode, length), len, offset) {
-        return 7;
-    }
-    0
+    let room = line::need(
+        has_room(training::interval_count(mode, length), len, offset),
+        7,
+        0,
+    );
+    line::or_next(
+        line::mode_fault(mode, role),
+        line::need(length_ok(mode, length), 3, room),
+    )
 }
 
 // The point writer of training, from the front of `out`.
@@ -239,6 +213,7 @@ fn write_training(mode: u8, role: u8, length: u32, out: &mut [i16]) -> training:
 pub fn open(mode: u8, role: u8, length: u32, out: &mut [i16], offset: usize) -> Sent
     ensures { λ r. ⌜ r ≡ openAnswer mode role length (size (now (out .entry))) offset ⌝ }
     ensures { λ r. ⌜ now (out .exit) ≡ openNumbers mode role length (now (out .entry)) offset ⌝ }
+    ensures { λ r. ⌜ Told (openRefusal mode role length (size (now (out .entry))) offset) (opened mode role length) r ⌝ }
 {
     let n = open_refusal(mode, role, length, out.len(), offset);
     if n != 0 {

@@ -1,5 +1,4 @@
 use denote.Ref.{now}
-use mathlib.Core.Path.{refl}
 use Rattle.lent_receiver.proofs.Receivings.{handed-short, handed-refused, handed-reference, handed-bits, handed-gap}
 use borrow.Author.Needs.{needs}
 use Rattle.lent_receiver.proofs.hand_back.Statement.{statement}
@@ -60,7 +59,7 @@ same-length-2 : tie.Need-same-length-2
 same-length-2 c = search needs
 
 returns-3 : tie.Need-returns-3
-returns-3 c = let a = c .before .before .before .before .before .before .before .before .before .before .before .before .before .before .args in handed-reference (now (a .state)) (now (a .answer)) (a .o) (c .before .before .before .before .before .before .before .before .before .before .before .if1 .left) _ _ _ _ _ refl (c .before .before .before .before .before .before .put-receiver .ensures) (c .before .before .put-answer .ensures) (search needs) refl
+returns-3 c = let a = c .before .before .before .before .before .before .before .before .before .before .before .before .before .before .args in handed-reference (now (a .state)) (now (a .answer)) (a .o) (c .before .before .before .before .before .before .before .before .before .before .before .if1 .left) _ _ _ (c .before .before .before .before .before .before .put-receiver .ensures) (search needs) (c .before .before .put-answer .ensures)
 
 same-length-3 : tie.Need-same-length-3
 same-length-3 c = search needs
@@ -69,7 +68,7 @@ same-length-4 : tie.Need-same-length-4
 same-length-4 c = search needs
 
 returns-4 : tie.Need-returns-4
-returns-4 c = let a = c .before .before .before .before .before .before .before .before .before .before .before .before .before .before .args in handed-bits (now (a .state)) (now (a .answer)) (a .o) (c .before .before .before .before .before .before .before .before .before .before .before .if1 .left) _ _ _ _ _ refl (c .before .before .before .before .before .before .put-receiver2 .ensures) (c .before .before .put-answer2 .ensures) _ (search needs) refl
+returns-4 c = let a = c .before .before .before .before .before .before .before .before .before .before .before .before .before .before .args in handed-bits (now (a .state)) (now (a .answer)) (a .o) (c .before .before .before .before .before .before .before .before .before .before .before .if1 .left) _ _ _ (c .before .before .before .before .before .before .put-receiver2 .ensures) _ (search needs) (c .before .before .put-answer2 .ensures)
 
 same-length-5 : tie.Need-same-length-5
 same-length-5 c = search needs
@@ -78,7 +77,7 @@ same-length-6 : tie.Need-same-length-6
 same-length-6 c = search needs
 
 returns-5 : tie.Need-returns-5
-returns-5 c = let a = c .before .before .before .before .before .before .before .before .before .before .before .before .before .before .args in handed-gap (now (a .state)) (now (a .answer)) (a .o) (c .before .before .before .before .before .before .before .before .before .before .before .if1 .left) _ _ _ _ _ refl (c .before .before .before .before .before .before .put-receiver3 .ensures) (c .before .before .put-answer3 .ensures) _ (search needs) refl
+returns-5 c = let a = c .before .before .before .before .before .before .before .before .before .before .before .before .before .before .args in handed-gap (now (a .state)) (now (a .answer)) (a .o) (c .before .before .before .before .before .before .before .before .before .before .before .if1 .left) _ _ _ (c .before .before .before .before .before .before .put-receiver3 .ensures) _ (search needs) (c .before .before .put-answer3 .ensures)
 
 pub hand-back-spec : {M : Type 1} → statement M
 hand-back-spec =

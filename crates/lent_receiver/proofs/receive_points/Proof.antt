@@ -39,7 +39,7 @@ same-length-3 c = search needs
 returns-2 : tie.Need-returns-2
 returns-2 c =
     let a = c .before .before .before .before .before .before .before .before .before .before .before .before .before .before .before .before .args in
-    block-refused (now (a .state)) (now (a .points)) (now (a .line)) (now (a .plain)) _ (c .before .before .before .before .before .before .before .before .before .before .before .before .if1 .left) (c .before .before .before .before .before .before .before .before .before .before .load-receiver .ensures) _ _ _ (c .before .before .before .before .before .before .before .receive-points .ensures .0) _ (search needs)
+    block-refused (now (a .state)) (now (a .points)) (now (a .line)) (now (a .plain)) _ (c .before .before .before .before .before .before .before .before .before .before .before .before .if1 .left) (c .before .before .before .before .before .before .before .before .before .before .load-receiver .ensures) _ _ _ (c .before .before .before .before .before .before .before .receive-points .ensures .0) (c .before .before .before .before .before .before .before .receive-points .ensures .1) _ (search needs)
 
 same-length-4 : tie.Need-same-length-4
 same-length-4 c = search needs
@@ -53,7 +53,7 @@ same-length-6 c = search needs
 returns-3 : tie.Need-returns-3
 returns-3 c =
     let a = c .before .before .before .before .before .before .before .before .before .before .before .before .before .before .before .before .before .before .before .before .args in
-    block-taken (now (a .state)) (now (a .points)) (now (a .line)) (now (a .plain)) _ (c .before .before .before .before .before .before .before .before .before .before .before .before .before .before .before .before .if1 .left) (c .before .before .before .before .before .before .before .before .before .before .before .before .before .before .load-receiver .ensures) _ _ _ (c .before .before .before .before .before .before .before .before .before .before .before .receive-points .ensures .0) _ _ (search needs) (c .before .before .put-receiver .ensures)
+    block-taken (now (a .state)) (now (a .points)) (now (a .line)) (now (a .plain)) _ (c .before .before .before .before .before .before .before .before .before .before .before .before .before .before .before .before .if1 .left) (c .before .before .before .before .before .before .before .before .before .before .before .before .before .before .load-receiver .ensures) _ _ _ (c .before .before .before .before .before .before .before .before .before .before .before .receive-points .ensures .0) (c .before .before .before .before .before .before .before .before .before .before .before .receive-points .ensures .1) _ _ (search needs) (c .before .before .put-receiver .ensures)
 
 pub receive-points-spec : {M : Type 1} → statement M
 receive-points-spec =

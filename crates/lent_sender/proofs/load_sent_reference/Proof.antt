@@ -16,11 +16,11 @@ byte-at-requires-2 c κs = search needs
 byte-at-requires-3 : tie.Need-byte-at-requires-3
 byte-at-requires-3 c κs = search needs
 
-get32-requires : tie.Need-get32-requires
-get32-requires c κs = search needs
-
 byte-at-requires-4 : tie.Need-byte-at-requires-4
 byte-at-requires-4 c κs = search needs
+
+get32-requires : tie.Need-get32-requires
+get32-requires c κs = search needs
 
 byte-at-requires-5 : tie.Need-byte-at-requires-5
 byte-at-requires-5 c κs = search needs
@@ -38,8 +38,8 @@ load-sent-reference-spec =
     byte-at-requires
     byte-at-requires-2
     byte-at-requires-3
-    get32-requires
     byte-at-requires-4
+    get32-requires
     byte-at-requires-5
     returns
     returns-2)

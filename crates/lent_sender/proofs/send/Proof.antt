@@ -7,10 +7,18 @@ use Rattle.lent_sender.proofs.send.Reads as reads
 use Rattle.lent_sender.proofs.send.Lts as lts
 use Rattle.lent_sender.proofs.load_sender.Reads as load-sender-reads
 use Rattle.lent_sender.proofs.put_sent.Reads as put-sent-reads
+use Rattle.line.proofs.need.Reads as need-reads
+use Rattle.sender.proofs.are_bits.Reads as are-bits-reads
 use Rattle.sender.proofs.send.Reads as send-reads
 
+are-bits-requires : tie.Need-are-bits-requires
+are-bits-requires c κs = search needs
+
+need-requires : tie.Need-need-requires
+need-requires c κs = search needs
+
 returns : tie.Need-returns
-returns c = let a = c .before .before .before .args in send-short (now (a .state)) (now (a .input)) (now (a .out)) (a .offset) (c .if1 .taken)
+returns c = let a = c .before .before .before .before .before .args in send-short (now (a .state)) (now (a .input)) (now (a .out)) (a .offset) _ _ (c .before .before .if1 .taken) (c .before .are-bits .ensures) (c .need .ensures)
 
 load-sender-requires : tie.Need-load-sender-requires
 load-sender-requires c κs = search needs
@@ -28,12 +36,14 @@ same-length-2 : tie.Need-same-length-2
 same-length-2 c = search needs
 
 returns-2 : tie.Need-returns-2
-returns-2 c = let a = c .before .before .before .before .before .before .before .before .before .before .before .before .args in send-done (now (a .state)) (now (a .input)) (now (a .out)) (a .offset) _ _ _ _ _ (c .before .before .before .before .before .before .before .before .before .if1 .left) (c .before .before .before .before .before .before .before .load-sender .ensures) (c .before .before .before .before .before .send .ensures .0) (c .before .before .before .before .before .send .ensures .1) (c .before .before .put-sent .ensures)
+returns-2 c = let a = c .before .before .before .before .before .before .before .before .before .before .before .before .args in let e = c .before .before .before .before .before .send .ensures in send-done (now (a .state)) (now (a .input)) (now (a .out)) (a .offset) _ _ _ _ _ (c .before .before .before .before .before .before .before .before .before .if1 .left) (c .before .before .before .before .before .before .before .load-sender .ensures) (e .0) (e .1 .0) (e .1 .1) (c .before .before .put-sent .ensures)
 
 pub send-spec : {M : Type 1} → statement M
 send-spec =
     tie.close
     (tie.spec
+    are-bits-requires
+    need-requires
     returns
     load-sender-requires
     send-requires

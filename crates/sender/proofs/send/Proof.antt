@@ -1,5 +1,9 @@
 use native.Mathlib.Omega.{arith}
-use Rattle.sender.proofs.SendLaws.{send-refused, send-accepted, send-room, sent-law}
+use lib.ListN.{length}
+use mathlib.Core.Path.{sym, _∙_}
+use Rattle.sender.specs.Sender.{sendRefusal, afterBits, bitNumbers, sendAnswer, sendNumbers}
+use Rattle.sender.proofs.RefusalLaws.{send-ok}
+use Rattle.sender.proofs.AnswerLaws.{part-room, call-refused, call-done}
 use borrow.Author.Needs.{needs}
 use Rattle.sender.proofs.send.Statement.{statement}
 use Rattle.sender.proofs.send.Tie as tie
@@ -12,28 +16,30 @@ send-refusal-requires : tie.Need-send-refusal-requires
 send-refusal-requires c κs = search needs
 
 returns : tie.Need-returns
-returns c = send-refused (c .before .before .before .args .s) (c .before .before .before .args .input .now) (c .before .before .before .args .out .now) (c .before .before .before .args .offset) _ (c .before .send-refusal .ensures) (c .if1 .taken)
+unfolding sendAnswer sendNumbers
+returns c = let a = c .before .before .before .args in call-refused (sendRefusal (a .s) (a .input .now) (length (a .out .now)) (a .offset)) (afterBits (a .s) (a .input .now)) (a .out .now) (a .offset) (bitNumbers (a .s) (a .input .now)) _ (c .before .send-refusal .ensures) (c .if1 .taken)
 
 mul-write-points : tie.Need-mul-write-points
-mul-write-points c = omega (arith, send-accepted (c .before .before .before .args .s) (c .before .before .before .args .input .now) (c .before .before .before .args .out .now) (c .before .before .before .args .offset) _ (c .before .send-refusal .ensures) (c .if1 .left) .room)
+mul-write-points c = omega (arith, send-ok _ _ _ _ (sym (c .before .send-refusal .ensures) ∙ c .if1 .left) .1 .room)
 
 sub-write-points : tie.Need-sub-write-points
-sub-write-points c = omega (arith, send-accepted (c .before .before .before .args .s) (c .before .before .before .args .input .now) (c .before .before .before .args .out .now) (c .before .before .before .args .offset) _ (c .before .send-refusal .ensures) (c .if1 .left) .room)
+sub-write-points c = omega (arith, send-ok _ _ _ _ (sym (c .before .send-refusal .ensures) ∙ c .if1 .left) .1 .room)
 
 part-write-points-start : tie.Need-part-write-points-start
-part-write-points-start c = let z = send-accepted (c .before .before .before .args .s) (c .before .before .before .args .input .now) (c .before .before .before .args .out .now) (c .before .before .before .args .offset) _ (c .before .send-refusal .ensures) (c .if1 .left) .room in omega arith
+part-write-points-start c = let z = send-ok _ _ _ _ (sym (c .before .send-refusal .ensures) ∙ c .if1 .left) .1 .room in omega arith
 
 part-write-points-end : tie.Need-part-write-points-end
 part-write-points-end c = search needs
 
 write-points-requires : tie.Need-write-points-requires
-write-points-requires c κs = send-room (c .before .before .before .before .args .s) (c .before .before .before .before .args .input .now) (c .before .before .before .before .args .out .now) (c .before .before .before .before .args .offset) _ (c .before .before .send-refusal .ensures) (c .before .if1 .left)
+write-points-requires c κs = let k = send-ok _ _ _ _ (sym (c .before .before .send-refusal .ensures) ∙ c .before .if1 .left) .1 in (k .are-bits, part-room (c .before .before .before .before .args .out .now) _ _ (k .room))
 
 same-length : tie.Need-same-length
 same-length c = search needs
 
 returns-2 : tie.Need-returns-2
-returns-2 c = sent-law (c .before .before .before .before .before .before .args .s) (c .before .before .before .before .before .before .args .input .now) (c .before .before .before .before .before .before .args .out .now) (c .before .before .before .before .before .before .args .offset) _ (c .before .before .before .before .send-refusal .ensures) _ _ (c .before .before .before .if1 .left) (c .before .write-points .ensures .0) (c .before .write-points .ensures .1)
+unfolding sendAnswer sendNumbers
+returns-2 c = let z = send-ok _ _ _ _ (sym (c .before .before .before .before .send-refusal .ensures) ∙ c .before .before .before .if1 .left) .1 .room in let a = c .before .before .before .before .before .before .args in call-done (sendRefusal (a .s) (a .input .now) (length (a .out .now)) (a .offset)) (afterBits (a .s) (a .input .now)) (a .out .now) (a .offset) (bitNumbers (a .s) (a .input .now)) _ _ _ (c .before .before .before .before .send-refusal .ensures) (c .before .before .before .if1 .left) (omega arith) (c .before .write-points .ensures .0) (c .before .write-points .ensures .1)
 
 pub send-spec : {M : Type 1} → statement M
 send-spec =
