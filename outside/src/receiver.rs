@@ -164,7 +164,8 @@ pub fn receive_points(
     Ok(next)
 }
 
-fn block_bytes(width: u32, answer: Answer) -> (u8, u8) {
+/// The bytes of a point in a block: its line bits, then its data bits.
+pub fn block_bytes(width: u32, answer: Answer) -> (u8, u8) {
     match answer {
         Answer::Reference => (REFERENCE_BYTE, 0),
         Answer::Gap(_) => (GAP_BYTE, 0),

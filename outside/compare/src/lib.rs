@@ -1,8 +1,10 @@
 //! The proved library, called through its C functions, and what the comparison
 //! programs share.
 
-pub mod blocks;
+pub mod bulk;
+pub mod faults;
 pub mod layout;
+pub mod line;
 pub mod listing;
 pub mod ours;
 pub mod points;

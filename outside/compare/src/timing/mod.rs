@@ -10,7 +10,7 @@ mod receiving;
 mod sending;
 mod storing;
 
-use outside::mode::{Mode, MODES};
+use outside::mode::{modes_and_roles, Mode};
 use outside::receiver::{self, Receiver};
 
 use measure::{measure, Work};
@@ -26,13 +26,8 @@ struct Signal {
 impl Signal {
     /// Every mode with each of its roles.
     fn all() -> Vec<Signal> {
-        let of = |mode: &'static Mode| (0..mode.near_taps.len()).map(move |role| (mode, role));
-        let pairs = MODES.iter().flat_map(of);
-        pairs
-            .map(|(mode, role)| Signal {
-                mode,
-                role: role as u8,
-            })
+        modes_and_roles()
+            .map(|(mode, role)| Signal { mode, role })
             .collect()
     }
 

@@ -3,7 +3,7 @@
 use std::hint::black_box;
 
 use outside::point::Point;
-use outside::receiver::{self, Receiver};
+use outside::receiver::{self, Answer, Receiver};
 use outside::refusal::Refusal;
 use outside::tuned;
 
@@ -20,6 +20,120 @@ const BETWEEN_GAPS: usize = 256;
 /// The length of such a gap in unit intervals.
 const GAP: u32 = 3;
 
+/// A receiver of one of the implementations.
+trait Receives {
+    /// What a point leaves besides the state.
+    type Told;
+    fn fresh(signal: Signal) -> Self;
+    fn point(&mut self, point: Point) -> Self::Told;
+    fn gap(&mut self);
+    fn answer(&self, told: &Self::Told, width: u32) -> [u8; ANSWER];
+    fn state(&self) -> [u8; STATE];
+}
+
+/// The proved library, with the bytes that it is lent.
+struct Proved {
+    state: [u8; STATE],
+    answer: [u8; ANSWER],
+}
+
+impl Receives for Proved {
+    type Told = u8;
+
+    fn fresh(signal: Signal) -> Proved {
+        Proved {
+            state: layout::receiver_bytes(&signal.receiver()),
+            answer: [0; ANSWER],
+        }
+    }
+
+    #[inline(always)]
+    fn point(&mut self, point: Point) -> u8 {
+        let number = ours::receive_point(&mut self.state, point.re, point.im, &mut self.answer);
+        black_box(&self.answer);
+        number
+    }
+
+    fn gap(&mut self) {
+        black_box(ours::receive_gap(&mut self.state, GAP, &mut self.answer));
+    }
+
+    fn answer(&self, _: &u8, _: u32) -> [u8; ANSWER] {
+        self.answer
+    }
+
+    fn state(&self) -> [u8; STATE] {
+        self.state
+    }
+}
+
+/// The plain implementation on its own state.
+impl Receives for Receiver {
+    type Told = Answer;
+
+    fn fresh(signal: Signal) -> Receiver {
+        signal.receiver()
+    }
+
+    #[inline(always)]
+    fn point(&mut self, point: Point) -> Answer {
+        let (answer, next) = receiver::receive_point(*self, point.re, point.im).expect("taken");
+        *self = next;
+        answer
+    }
+
+    fn gap(&mut self) {
+        *self = receiver::receive_gap(*self, GAP).expect("taken").1;
+    }
+
+    fn answer(&self, told: &Answer, width: u32) -> [u8; ANSWER] {
+        layout::answer_bytes(width, told)
+    }
+
+    fn state(&self) -> [u8; STATE] {
+        layout::receiver_bytes(self)
+    }
+}
+
+/// The plain implementation over the same 16 and 8 bytes as the proved one.
+struct InBytes {
+    state: [u8; STATE],
+    width: u32,
+}
+
+impl Receives for InBytes {
+    type Told = [u8; ANSWER];
+
+    fn fresh(signal: Signal) -> InBytes {
+        InBytes {
+            state: layout::receiver_bytes(&signal.receiver()),
+            width: signal.mode.width,
+        }
+    }
+
+    #[inline(always)]
+    fn point(&mut self, point: Point) -> [u8; ANSWER] {
+        let mut receiver = layout::receiver_of(&self.state);
+        let answer = receiver.point(point);
+        self.state = black_box(layout::receiver_bytes(&receiver));
+        layout::answer_bytes(self.width, &answer)
+    }
+
+    fn gap(&mut self) {
+        let mut receiver = layout::receiver_of(&self.state);
+        receiver.gap();
+        self.state = layout::receiver_bytes(&receiver);
+    }
+
+    fn answer(&self, told: &[u8; ANSWER], _: u32) -> [u8; ANSWER] {
+        *told
+    }
+
+    fn state(&self) -> [u8; STATE] {
+        self.state
+    }
+}
+
 /// A list of single calls: points, with gaps between if so.
 struct Calls {
     signal: Signal,
@@ -34,80 +148,37 @@ impl Calls {
         self.points.chunks(size)
     }
 
-    /// The proved library.
-    fn proved<const KEPT: bool>(&self, kept: &mut Vec<u8>) {
-        let mut state = layout::receiver_bytes(&self.signal.receiver());
-        let mut answer = [0; ANSWER];
+    fn run<R: Receives, const KEPT: bool>(&self, kept: &mut Vec<u8>) {
+        let mut receiver = R::fresh(self.signal);
         for stretch in self.stretches() {
-            for point in stretch {
-                let number = ours::receive_point(&mut state, point.re, point.im, &mut answer);
-                black_box((number, &answer));
+            for &point in stretch {
+                let told = black_box(receiver.point(point));
                 if KEPT {
-                    kept.extend(answer);
+                    kept.extend(receiver.answer(&told, self.signal.mode.width));
                 }
             }
             if self.gaps {
-                black_box(ours::receive_gap(&mut state, GAP, &mut answer));
+                receiver.gap();
             }
         }
-        kept.extend(state);
+        kept.extend(receiver.state());
     }
 
-    /// The plain implementation on its own state.
-    fn plain<const KEPT: bool>(&self, kept: &mut Vec<u8>) {
-        let mut state = self.signal.receiver();
-        for stretch in self.stretches() {
-            for point in stretch {
-                if let Ok((answer, next)) = receiver::receive_point(state, point.re, point.im) {
-                    black_box(answer);
-                    state = next;
-                    if KEPT {
-                        kept.extend(layout::answer_bytes(self.signal.mode.width, &answer));
-                    }
-                }
-            }
-            if self.gaps {
-                state = receiver::receive_gap(state, GAP).expect("taken").1;
-            }
-        }
-        kept.extend(layout::receiver_bytes(&state));
-    }
-
-    /// The plain implementation over the same 16 and 8 bytes as the proved one.
-    fn plain_in_bytes<const KEPT: bool>(&self, kept: &mut Vec<u8>) {
-        let mut state: [u8; STATE] = layout::receiver_bytes(&self.signal.receiver());
-        for point in &self.points {
-            let before = layout::receiver_of(&state);
-            if let Ok((answer, next)) = receiver::receive_point(before, point.re, point.im) {
-                let answer = black_box(layout::answer_bytes(self.signal.mode.width, &answer));
-                state = black_box(layout::receiver_bytes(&next));
-                if KEPT {
-                    kept.extend(answer);
-                }
-            }
-        }
-        kept.extend(state);
-    }
-
-    fn proved_side(&self) -> Side<'_> {
+    fn side<R: Receives>(&self) -> Side<'_> {
         Box::new(|kept| match kept {
-            Some(kept) => self.proved::<true>(kept),
-            None => self.proved::<false>(&mut Vec::new()),
+            Some(kept) => self.run::<R, true>(kept),
+            None => self.run::<R, false>(&mut Vec::new()),
         })
     }
 
-    fn plain_side(&self) -> Side<'_> {
-        Box::new(|kept| match kept {
-            Some(kept) => self.plain::<true>(kept),
-            None => self.plain::<false>(&mut Vec::new()),
-        })
-    }
-
-    fn plain_in_bytes_side(&self) -> Side<'_> {
-        Box::new(|kept| match kept {
-            Some(kept) => self.plain_in_bytes::<true>(kept),
-            None => self.plain_in_bytes::<false>(&mut Vec::new()),
-        })
+    /// Two receivers over the same calls.
+    fn row<One: Receives, Other: Receives>(&self, name: &str) {
+        let work = Work {
+            proved: self.side::<One>(),
+            plain: Some(self.side::<Other>()),
+            tuned: None,
+        };
+        call_row(name, self.signal, POINTS, work);
     }
 }
 
@@ -119,34 +190,17 @@ fn random_calls(signal: Signal) -> Calls {
     }
 }
 
-fn single_row(name: &str, signal: Signal, proved: Side, plain: Side) {
-    let work = Work {
-        proved,
-        plain: Some(plain),
-        tuned: None,
-    };
-    call_row(name, signal, POINTS, work);
-}
-
 /// The machine's noise: the same work on both sides.
 pub fn noise(name: &str, signal: Signal) {
-    let calls = random_calls(signal);
-    single_row(name, signal, calls.plain_side(), calls.plain_side());
+    random_calls(signal).row::<Receiver, Receiver>(name);
 }
 
 pub fn single(name: &str, signal: Signal) {
-    let calls = random_calls(signal);
-    single_row(name, signal, calls.proved_side(), calls.plain_side());
+    random_calls(signal).row::<Proved, Receiver>(name);
 }
 
 pub fn single_in_bytes(name: &str, signal: Signal) {
-    let calls = random_calls(signal);
-    single_row(
-        name,
-        signal,
-        calls.proved_side(),
-        calls.plain_in_bytes_side(),
-    );
+    random_calls(signal).row::<Proved, InBytes>(name);
 }
 
 pub fn single_with_gaps(name: &str, signal: Signal) {
@@ -155,7 +209,7 @@ pub fn single_with_gaps(name: &str, signal: Signal) {
         points: input::with_origins(signal.mode, POINTS),
         gaps: true,
     };
-    single_row(name, signal, calls.proved_side(), calls.plain_side());
+    calls.row::<Proved, Receiver>(name);
 }
 
 /// A list of blocks, with gaps between if so.
@@ -187,40 +241,38 @@ impl<'a> Blocks<'a> {
         std::iter::once(first).chain(rest.chunks(2 * self.size.max(1)))
     }
 
-    fn proved_side(&self) -> Side<'_> {
+    /// Blocks one after the other, each received by a call on the receiver.
+    fn side<'b, R: Receives + 'b>(
+        &'b self,
+        receive: impl Fn(&mut R, &[i16], &mut [u8], &mut [u8]) + 'b,
+    ) -> Side<'b> {
         let (mut line, mut plain) = (vec![0; self.size], vec![0; self.size]);
         Box::new(move |mut kept| {
-            let mut state = layout::receiver_bytes(&self.signal.receiver());
+            let mut receiver = R::fresh(self.signal);
             for block in self.blocks() {
-                let number = ours::receive_points(&mut state, block, &mut line, &mut plain);
-                black_box((number, &line, &plain));
+                receive(&mut receiver, block, &mut line, &mut plain);
+                black_box((&line, &plain));
                 if self.gaps {
-                    black_box(ours::receive_gap(&mut state, GAP, &mut [0; ANSWER]));
+                    receiver.gap();
                 }
                 if let Some(kept) = &mut kept {
-                    kept.extend(line.iter().chain(&plain).chain(&state));
+                    kept.extend(line.iter().chain(&plain).chain(&receiver.state()));
                 }
             }
         })
     }
 
+    fn proved_side(&self) -> Side<'_> {
+        self.side(|proved: &mut Proved, block, line, plain| {
+            black_box(ours::receive_points(&mut proved.state, block, line, plain));
+        })
+    }
+
     /// The plain implementation or the tuned one.
-    fn side(&self, receive_points: ReceiveBlock) -> Side<'_> {
-        let (mut line, mut plain) = (vec![0; self.size], vec![0; self.size]);
-        Box::new(move |mut kept| {
-            let mut state = self.signal.receiver();
-            for block in self.blocks() {
-                let told = receive_points(state, block, &mut line, &mut plain);
-                state = black_box(told).expect("taken");
-                black_box((&line, &plain));
-                if self.gaps {
-                    state = receiver::receive_gap(state, GAP).expect("taken").1;
-                }
-                if let Some(kept) = &mut kept {
-                    let state = layout::receiver_bytes(&state);
-                    kept.extend(line.iter().chain(&plain).chain(&state));
-                }
-            }
+    fn rust_side(&self, receive_points: ReceiveBlock) -> Side<'_> {
+        self.side(move |receiver: &mut Receiver, block, line, plain| {
+            let told = receive_points(*receiver, block, line, plain);
+            *receiver = black_box(told).expect("taken");
         })
     }
 
@@ -232,8 +284,8 @@ impl<'a> Blocks<'a> {
     fn against(&self, tuned: ReceiveBlock) -> Work<'_> {
         Work {
             proved: self.proved_side(),
-            plain: Some(self.side(receiver::receive_points)),
-            tuned: Some(self.side(tuned)),
+            plain: Some(self.rust_side(receiver::receive_points)),
+            tuned: Some(self.rust_side(tuned)),
         }
     }
 }
