@@ -10,6 +10,7 @@ pub mod ours;
 pub mod points;
 pub mod receiving;
 pub mod sending;
+pub mod signal;
 pub mod stores;
 pub mod storing;
 pub mod tally;

@@ -3,15 +3,15 @@
 //! code between all states, and the scramblers over long runs.
 
 use outside::code;
-use outside::mode::{modes_and_roles, Mode};
+use outside::mode::Mode;
 use outside::point::{self, Decision, Point};
-use outside::receiver::{self, Answer, Receiver};
+use outside::receiver::{Answer, Receiver, REFERENCE_BYTE};
 use outside::rng::Rng;
-use outside::scrambler::Scrambler;
-use outside::sender::Sender;
+use outside::sender::{scrambled_group, Sender};
 use outside::units::UnitIntervals;
 
 use crate::layout::{self, ANSWER};
+use crate::signal::Signal;
 use crate::tally::Tally;
 use crate::{bulk, ours, points, receiving, sending};
 
@@ -33,67 +33,50 @@ const RUN: usize = 4_000;
 /// The random registers of a length that is too great for all of them.
 const RANDOM_REGISTERS: usize = 40;
 
-/// A mode, one of its roles and the scrambler of both.
-#[derive(Clone, Copy)]
-struct Signal {
-    mode: &'static Mode,
-    role: u8,
-    scrambler: Scrambler,
+fn sender(signal: Signal, reference: u8, register: u32) -> Sender {
+    Sender {
+        mode: signal.mode.number,
+        role: signal.role,
+        reference,
+        register,
+        held: signal.scrambler().full(),
+    }
 }
 
-impl Signal {
-    fn fresh(self) -> Receiver {
-        receiver::fresh(self.mode.number, self.role).expect("a mode and its role")
+/// A receiver with a reference and a full register.
+fn receiver(signal: Signal, reference: u8, register: u32) -> Receiver {
+    Receiver {
+        reference: Some(reference),
+        register,
+        held: signal.scrambler().full(),
+        ..signal.receiver()
     }
+}
 
-    fn sender(self, reference: u8, register: u32) -> Sender {
-        Sender {
-            mode: self.mode.number,
-            role: self.role,
-            reference,
-            register,
-            held: self.scrambler.full(),
-        }
-    }
+/// The data bits that a register scrambles into a group of line bits.
+fn data_of(signal: Signal, mut register: u32, group: u8) -> Vec<u8> {
+    let scrambler = signal.scrambler();
+    let line = (0..signal.mode.width).rev().map(|k| group >> k & 1);
+    line.map(|bit| {
+        let told = scrambler.descramble(register, scrambler.full(), bit);
+        register = told.register;
+        told.data.expect("settled")
+    })
+    .collect()
+}
 
-    /// A receiver with a reference and a full register.
-    fn receiver(self, reference: u8, register: u32) -> Receiver {
-        Receiver {
-            reference: Some(reference),
-            register,
-            held: self.scrambler.full(),
-            ..self.fresh()
-        }
+/// All registers of a length of 7; else all zeros, all ones, each bit alone and
+/// random ones.
+fn registers(signal: Signal, rng: &mut Rng) -> Vec<u32> {
+    let length = signal.mode.register_length;
+    let count = 1 << length;
+    if length == 7 {
+        return (0..count).collect();
     }
-
-    /// The data bits that a register scrambles into a group of line bits.
-    fn data_of(self, register: u32, group: u8) -> Vec<u8> {
-        let (mut register, full) = (register, self.scrambler.full());
-        let line = (0..self.mode.width).rev().map(|k| group >> k & 1);
-        line.map(|bit| {
-            let told = self.scrambler.descramble(register, full, bit);
-            register = told.register;
-            told.data.expect("settled")
-        })
-        .collect()
-    }
-
-    /// All registers of a length of 7; else all zeros, all ones, each bit alone
-    /// and random ones.
-    fn registers(self, rng: &mut Rng) -> Vec<u32> {
-        let length = self.mode.register_length;
-        let count = 1 << length;
-        if length == 7 {
-            return (0..count).collect();
-        }
-        let alone = (0..length).map(|bit| 1 << bit);
-        let random = (0..RANDOM_REGISTERS).map(|_| rng.below(u64::from(count)) as u32);
-        [0, count - 1]
-            .into_iter()
-            .chain(alone)
-            .chain(random)
-            .collect()
-    }
+    let mut chosen = vec![0, count - 1];
+    chosen.extend((0..length).map(|bit| 1 << bit));
+    chosen.extend((0..RANDOM_REGISTERS).map(|_| rng.below(u64::from(count)) as u32));
+    chosen
 }
 
 /// Bits as a number, the first highest.
@@ -103,23 +86,22 @@ fn number_of(bits: &[u8]) -> u8 {
 
 /// A fresh receiver takes a point: the reference after it is the decided state.
 fn decide(tally: &mut Tally, signal: Signal, (re, im): (i16, i16)) {
-    let fresh = signal.fresh();
+    let fresh = signal.receiver();
     let (before, unwritten) = (layout::receiver_bytes(&fresh), [0xa5; ANSWER]);
     let (mut state, mut answer) = (before, unwritten);
     let number = ours::receive_point(&mut state, re, im, &mut answer);
     tally.count(number);
     let after = |told: Answer, reference: Option<u8>| {
-        let place = UnitIntervals(1);
         let next = Receiver {
             reference,
-            place,
+            place: UnitIntervals(1),
             ..fresh
         };
         let bytes = layout::answer_bytes(signal.mode.width, &told);
         (0, layout::receiver_bytes(&next), bytes)
     };
     let right = match point::decide(signal.mode, re, im) {
-        _ if !point::in_range(&[re, im]) => (8, before, unwritten),
+        _ if !(Point { re, im }).in_range() => (8, before, unwritten),
         Decision::State(state) => after(Answer::Reference, Some(state)),
         Decision::Origin => after(Answer::Gap(UnitIntervals(1)), None),
         Decision::NoSector => (10, before, unwritten),
@@ -177,8 +159,8 @@ fn decide_around(tally: &mut Tally, signal: Signal) {
 
 /// A group of line bits after a reference: the point of its state is sent.
 fn send_group(tally: &mut Tally, signal: Signal, reference: u8, register: u32, group: u8) {
-    let start = layout::sender_bytes(&signal.sender(reference, register));
-    let data = signal.data_of(register, group);
+    let start = layout::sender_bytes(&sender(signal, reference, register));
+    let data = data_of(signal, register, group);
     let told = sending::run_send(tally, &start, &data, 4, 1);
     let reached = code::next_state(signal.mode, reference, group);
     let Point { re, im } = point::sent(signal.mode, reached);
@@ -194,11 +176,11 @@ fn send_group(tally: &mut Tally, signal: Signal, reference: u8, register: u32, g
 /// A state's point after a reference: its group of line bits, and the data bits
 /// that a sender would have made it from.
 fn receive_state(tally: &mut Tally, signal: Signal, reference: u8, register: u32, state: u8) {
-    let before = layout::receiver_bytes(&signal.receiver(reference, register));
+    let before = layout::receiver_bytes(&receiver(signal, reference, register));
     let sent = point::sent(signal.mode, state);
     let (after, answer) = receiving::run_point(tally, before, sent);
     let group = code::group(signal.mode, reference, state);
-    let plain = number_of(&signal.data_of(register, group));
+    let plain = number_of(&data_of(signal, register, group));
     let same = after[3] == state && answer[..4] == [1, group, plain, 0];
     tally.check(same, || {
         format!("state {state} after {before:?}: {after:?} {answer:?}")
@@ -207,7 +189,7 @@ fn receive_state(tally: &mut Tally, signal: Signal, reference: u8, register: u32
 
 /// The differential code both ways, from every state.
 fn run_code(tally: &mut Tally, rng: &mut Rng, signal: Signal) {
-    for register in signal.registers(rng) {
+    for register in registers(signal, rng) {
         for &reference in signal.mode.states {
             for group in 0..1 << signal.mode.width {
                 send_group(tally, signal, reference, register, group);
@@ -219,53 +201,54 @@ fn run_code(tally: &mut Tally, rng: &mut Rng, signal: Signal) {
     }
 }
 
-/// A run of data from a register: sent, received with that register, and
-/// received by a fresh receiver.
+/// The bytes of data bits of groups that follow one another after a reference:
+/// the first R line bits are unsettled.
+fn marked(mode: &Mode, groups: &[u8]) -> Vec<u8> {
+    let unsettled = |k: usize| (mode.register_length).saturating_sub(mode.width * k as u32);
+    let byte = |(k, group)| {
+        let count = unsettled(k).min(mode.width);
+        group % (1 << (mode.width - count)) + 16 * count as u8
+    };
+    groups.iter().copied().enumerate().map(byte).collect()
+}
+
+/// A run of data from a register: sent, then received by a receiver with that
+/// register and by a fresh one.
 fn run_bits(tally: &mut Tally, rng: &mut Rng, signal: Signal, register: u32, data: &[u8]) {
-    let width = signal.mode.width as usize;
+    let groups = || data.chunks(signal.mode.width as usize);
     let reference = rng.pick(signal.mode.states);
-    let start = signal.sender(reference, register);
+    let start = sender(signal, reference, register);
     let sent = sending::run_send(tally, &layout::sender_bytes(&start), data, 2 * RUN, 0);
+    let mut hear = |from: Receiver| {
+        let before = layout::receiver_bytes(&from);
+        bulk::run(tally, signal.mode.width, before, &sent.out, (RUN, RUN))
+    };
+    let knowing = hear(receiver(signal, reference, register));
+    let fresh = hear(signal.receiver());
     let mut running = register;
-    let line = data.iter().map(|&bit| {
-        let (line, after) = signal.scrambler.scramble(running, bit);
+    let scrambled = groups().map(|bits| {
+        let bits = bits.iter().copied();
+        let (group, after) = scrambled_group(signal.scrambler(), running, bits);
         running = after;
-        line
+        group
     });
-    let line: Vec<u8> = line.collect();
-    let numbers = |bits: &[u8]| bits.chunks(width).map(number_of).collect::<Vec<u8>>();
-
-    let knowing = layout::receiver_bytes(&signal.receiver(reference, register));
-    let lent = (RUN, RUN);
-    let block = bulk::run(tally, signal.mode.width, knowing, &sent.out, lent);
-    let same = block.line == numbers(&line) && block.plain == numbers(data);
+    let line: Vec<u8> = scrambled.collect();
+    let plain: Vec<u8> = groups().map(number_of).collect();
+    let same = knowing.line == line && knowing.plain == plain;
     tally.check(same, || format!("bits from {start:?}, register known"));
-
-    let fresh = layout::receiver_bytes(&signal.fresh());
-    let block = bulk::run(tally, signal.mode.width, fresh, &sent.out, lent);
-    let settled = signal.mode.register_length as usize;
-    // The first point is the reference; then R line bits are unsettled.
-    let plain = (width..data.len()).map(|k| if k < width + settled { 0 } else { data[k] });
-    let plain = numbers(&plain.collect::<Vec<u8>>()).into_iter();
-    let unsettled = (0..RUN - 1).map(|k| settled.saturating_sub(k * width).min(width) as u8);
-    let marked: Vec<u8> = plain
-        .zip(unsettled)
-        .map(|(bits, u)| bits + 16 * u)
-        .collect();
-    let same = block.line[0] == receiver::REFERENCE_BYTE
-        && block.line[1..] == numbers(&line)[1..]
-        && block.plain[1..] == marked;
+    // The first point is the reference.
+    let same = [fresh.line[0], fresh.plain[0]] == [REFERENCE_BYTE, 0]
+        && fresh.line[1..] == line[1..]
+        && fresh.plain[1..] == marked(signal.mode, &plain[1..]);
     tally.check(same, || format!("bits from {start:?}, fresh receiver"));
 }
 
 /// Zeros, ones, both in turn and random data, from several registers.
 fn run_scrambler(tally: &mut Tally, rng: &mut Rng, signal: Signal) {
-    let (count, all) = (
-        RUN * signal.mode.width as usize,
-        1 << signal.mode.register_length,
-    );
-    let random = [(); 3].map(|()| rng.below(all) as u32);
-    for register in [0, 1, all as u32 - 1].into_iter().chain(random) {
+    let count = RUN * signal.mode.width as usize;
+    let ones = (1 << signal.mode.register_length) - 1;
+    let random = [(); 3].map(|()| rng.below(u64::from(ones)) as u32);
+    for register in [0, 1, ones].into_iter().chain(random) {
         let turns = (0..count).map(|k| (k % 2) as u8).collect();
         for data in [vec![0; count], vec![1; count], turns, rng.bits(count)] {
             run_bits(tally, rng, signal, register, &data);
@@ -277,13 +260,7 @@ fn run_scrambler(tally: &mut Tally, rng: &mut Rng, signal: Signal) {
 pub fn compare() -> bool {
     let mut tally = Tally::default();
     let mut rng = Rng::new(SEED);
-    for (mode, role) in modes_and_roles() {
-        let scrambler = Scrambler::of(mode, role).expect("a role of the mode");
-        let signal = Signal {
-            mode,
-            role,
-            scrambler,
-        };
+    for signal in Signal::all() {
         decide_grid(&mut tally, signal);
         decide_around(&mut tally, signal);
         run_code(&mut tally, &mut rng, signal);

@@ -180,17 +180,10 @@ fn run_damaged(tally: &mut Tally, rng: &mut Rng) {
     run_read(tally, rng, &store);
 }
 
-/// Where 16 and 17 are told by: an accepted store, the places for points that it
-/// has left, and a count of points.
-struct Append {
-    store: Vec<u8>,
-    count: usize,
-}
-
-/// Points to append that 16 or 17 refuses, or both or none of them: behind a lost
-/// count some points stand, and after all of them the total is so far from the
-/// greatest.
-fn append_near_end(rng: &mut Rng, long: bool, full: bool) -> Append {
+/// A store near its end, and a count of points that 16 or 17 refuses there, or
+/// both or none of them. A lost count stands before some points, and keeps the
+/// total near the greatest.
+fn near_end(rng: &mut Rng, long: bool, full: bool) -> (Vec<u8>, usize) {
     let records = rng.between(3, 6) as usize;
     let held = rng.below(7) as usize;
     let places = RECORD_POINTS * (records - 2) - held;
@@ -206,14 +199,14 @@ fn append_near_end(rng: &mut Rng, long: bool, full: bool) -> Append {
     let lost = u32::MAX - (held + left) as u32;
     store::append_lost(&mut store, lost).expect("room");
     store::append_points(&mut store, &vec![5; 2 * held]).expect("room");
-    Append { store, count }
+    (store, count)
 }
 
 /// Points to append with some faults, among 7, 8 and either one of 11 to 15 or
 /// any of 16 and 17.
 fn run_append(tally: &mut Tally, rng: &mut Rng, faults: &[u8]) {
     let has = |number: u8| faults.contains(&number);
-    let Append { mut store, count } = append_near_end(rng, has(16), has(17));
+    let (mut store, count) = near_end(rng, has(16), has(17));
     let mode = rng.mode_and_role().0;
     let mut list: Vec<Point> = (0..count).map(|_| points::in_range(rng, mode)).collect();
     if has(8) {

@@ -3,13 +3,14 @@
 use std::hint::black_box;
 
 use outside::point::Point;
-use outside::receiver::{self, Answer, Receiver};
+use outside::receiver::{self, Receiver};
 use outside::refusal::Refusal;
 use outside::tuned;
 
 use super::measure::{Side, Work};
-use super::{call_row, input, Signal};
+use super::{call_row, input};
 use crate::layout::{self, ANSWER, STATE};
+use crate::signal::Signal;
 use crate::{ours, points};
 
 const POINTS: usize = 40_000;
@@ -22,12 +23,10 @@ const GAP: u32 = 3;
 
 /// A receiver of one of the implementations.
 trait Receives {
-    /// What a point leaves besides the state.
-    type Told;
     fn fresh(signal: Signal) -> Self;
-    fn point(&mut self, point: Point) -> Self::Told;
+    /// Takes a point; the bytes of the answer are kept if so.
+    fn point<const KEPT: bool>(&mut self, point: Point, kept: &mut Vec<u8>);
     fn gap(&mut self);
-    fn answer(&self, told: &Self::Told, width: u32) -> [u8; ANSWER];
     fn state(&self) -> [u8; STATE];
 }
 
@@ -38,8 +37,6 @@ struct Proved {
 }
 
 impl Receives for Proved {
-    type Told = u8;
-
     fn fresh(signal: Signal) -> Proved {
         Proved {
             state: layout::receiver_bytes(&signal.receiver()),
@@ -48,18 +45,16 @@ impl Receives for Proved {
     }
 
     #[inline(always)]
-    fn point(&mut self, point: Point) -> u8 {
+    fn point<const KEPT: bool>(&mut self, point: Point, kept: &mut Vec<u8>) {
         let number = ours::receive_point(&mut self.state, point.re, point.im, &mut self.answer);
-        black_box(&self.answer);
-        number
+        black_box((number, &self.answer));
+        if KEPT {
+            kept.extend(self.answer);
+        }
     }
 
     fn gap(&mut self) {
         black_box(ours::receive_gap(&mut self.state, GAP, &mut self.answer));
-    }
-
-    fn answer(&self, _: &u8, _: u32) -> [u8; ANSWER] {
-        self.answer
     }
 
     fn state(&self) -> [u8; STATE] {
@@ -68,65 +63,69 @@ impl Receives for Proved {
 }
 
 /// The plain implementation on its own state.
-impl Receives for Receiver {
-    type Told = Answer;
+struct Plain {
+    width: u32,
+    state: Receiver,
+}
 
-    fn fresh(signal: Signal) -> Receiver {
-        signal.receiver()
+impl Receives for Plain {
+    fn fresh(signal: Signal) -> Plain {
+        Plain {
+            width: signal.mode.width,
+            state: signal.receiver(),
+        }
     }
 
     #[inline(always)]
-    fn point(&mut self, point: Point) -> Answer {
-        let (answer, next) = receiver::receive_point(*self, point.re, point.im).expect("taken");
-        *self = next;
-        answer
+    fn point<const KEPT: bool>(&mut self, point: Point, kept: &mut Vec<u8>) {
+        let told = receiver::receive_point(self.state, point.re, point.im);
+        let (answer, next) = told.expect("taken");
+        black_box(answer);
+        self.state = next;
+        if KEPT {
+            kept.extend(layout::answer_bytes(self.width, &answer));
+        }
     }
 
     fn gap(&mut self) {
-        *self = receiver::receive_gap(*self, GAP).expect("taken").1;
-    }
-
-    fn answer(&self, told: &Answer, width: u32) -> [u8; ANSWER] {
-        layout::answer_bytes(width, told)
+        let told = receiver::receive_gap(self.state, GAP);
+        self.state = told.expect("taken").1;
     }
 
     fn state(&self) -> [u8; STATE] {
-        layout::receiver_bytes(self)
+        layout::receiver_bytes(&self.state)
     }
 }
 
 /// The plain implementation over the same 16 and 8 bytes as the proved one.
 struct InBytes {
-    state: [u8; STATE],
     width: u32,
+    state: [u8; STATE],
 }
 
 impl Receives for InBytes {
-    type Told = [u8; ANSWER];
-
     fn fresh(signal: Signal) -> InBytes {
         InBytes {
-            state: layout::receiver_bytes(&signal.receiver()),
             width: signal.mode.width,
+            state: layout::receiver_bytes(&signal.receiver()),
         }
     }
 
     #[inline(always)]
-    fn point(&mut self, point: Point) -> [u8; ANSWER] {
-        let mut receiver = layout::receiver_of(&self.state);
-        let answer = receiver.point(point);
-        self.state = black_box(layout::receiver_bytes(&receiver));
-        layout::answer_bytes(self.width, &answer)
+    fn point<const KEPT: bool>(&mut self, point: Point, kept: &mut Vec<u8>) {
+        let before = layout::receiver_of(&self.state);
+        let told = receiver::receive_point(before, point.re, point.im);
+        let (answer, next) = told.expect("taken");
+        let answer = black_box(layout::answer_bytes(self.width, &answer));
+        self.state = black_box(layout::receiver_bytes(&next));
+        if KEPT {
+            kept.extend(answer);
+        }
     }
 
     fn gap(&mut self) {
-        let mut receiver = layout::receiver_of(&self.state);
-        receiver.gap();
-        self.state = layout::receiver_bytes(&receiver);
-    }
-
-    fn answer(&self, told: &[u8; ANSWER], _: u32) -> [u8; ANSWER] {
-        *told
+        let told = receiver::receive_gap(layout::receiver_of(&self.state), GAP);
+        self.state = layout::receiver_bytes(&told.expect("taken").1);
     }
 
     fn state(&self) -> [u8; STATE] {
@@ -152,10 +151,7 @@ impl Calls {
         let mut receiver = R::fresh(self.signal);
         for stretch in self.stretches() {
             for &point in stretch {
-                let told = black_box(receiver.point(point));
-                if KEPT {
-                    kept.extend(receiver.answer(&told, self.signal.mode.width));
-                }
+                receiver.point::<KEPT>(point, kept);
             }
             if self.gaps {
                 receiver.gap();
@@ -192,11 +188,11 @@ fn random_calls(signal: Signal) -> Calls {
 
 /// The machine's noise: the same work on both sides.
 pub fn noise(name: &str, signal: Signal) {
-    random_calls(signal).row::<Receiver, Receiver>(name);
+    random_calls(signal).row::<Plain, Plain>(name);
 }
 
 pub fn single(name: &str, signal: Signal) {
-    random_calls(signal).row::<Proved, Receiver>(name);
+    random_calls(signal).row::<Proved, Plain>(name);
 }
 
 pub fn single_in_bytes(name: &str, signal: Signal) {
@@ -209,7 +205,7 @@ pub fn single_with_gaps(name: &str, signal: Signal) {
         points: input::with_origins(signal.mode, POINTS),
         gaps: true,
     };
-    calls.row::<Proved, Receiver>(name);
+    calls.row::<Proved, Plain>(name);
 }
 
 /// A list of blocks, with gaps between if so.
@@ -270,9 +266,9 @@ impl<'a> Blocks<'a> {
 
     /// The plain implementation or the tuned one.
     fn rust_side(&self, receive_points: ReceiveBlock) -> Side<'_> {
-        self.side(move |receiver: &mut Receiver, block, line, plain| {
-            let told = receive_points(*receiver, block, line, plain);
-            *receiver = black_box(told).expect("taken");
+        self.side(move |rust: &mut Plain, block, line, plain| {
+            let told = receive_points(rust.state, block, line, plain);
+            rust.state = black_box(told).expect("taken");
         })
     }
 

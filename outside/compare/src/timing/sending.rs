@@ -7,11 +7,12 @@ use outside::rng::Rng;
 use outside::sender::{self, Sender};
 use outside::tuned;
 
+use super::call_row;
 use super::measure::{Side, Work};
-use super::{call_row, Signal};
 use crate::layout::{self, STATE};
 use crate::ours;
 use crate::sending::{intervals, lengths};
+use crate::signal::Signal;
 
 /// The points of one call of send.
 const POINTS: usize = 20_000;

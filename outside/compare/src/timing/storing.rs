@@ -7,7 +7,8 @@ use outside::store::{self, FEWEST_RECORDS, RECORD, RECORD_POINTS};
 use outside::tuned;
 
 use super::measure::{Side, Work};
-use super::{call_row, input, Signal};
+use super::{call_row, input};
+use crate::signal::Signal;
 use crate::{ours, points};
 
 /// Points that fill a store of so many records.
