@@ -6,19 +6,20 @@
  * read, but must not be null.
  *
  * Each function returns 0, or the number of the refusal. A refusal leaves every lent byte and number as it was; of several
- * that apply, the lowest is given.
+ * that apply, the lowest is given. The table over a function says what its numbers are about there; the numbers are
  *
  *    1  mode not 1 to 4, a handed-in state's included
  *    2  role not one of the mode's, a state's included
  *    3  training length not 0 or 1 (modes 1 and 2), not 1280 to 8192 (3 and 4)
- *    4  a handed-in state with another field outside its range, or a byte of its layout that is not as below
+ *    4  a handed-in state with another field outside its range: a reference that is no state of the mode, more than R line
+ *       bits, in a sender fewer than R, in a receiver any without a reference; or a byte that is not as its layout has it
  *    5  a data byte above 1
- *    6  data bits not a multiple of w, the mode's bits in a point
- *    7  lent numbers too few from the offset, or an offset past their end; fewer lent bytes than a state, an answer, a
- *       block or a listing has; no lent number for a count; a last number of points without its partner
+ *    6  data bits not a multiple of w (none is fine)
+ *    7  lent numbers too few from the offset, or an offset past their end; also fewer lent bytes than a state, an answer, a
+ *       block or a listing has, no lent number for a count, and an odd count of the numbers of points
  *    8  a coordinate outside -16384 to 16384
  *    9  a gap, or a lost count to append, of 0
- *   10  a mode 2 point off the origin in none of the eight sectors
+ *   10  a mode 2 point off the origin in none of the eight sectors; no point in whole numbers is one
  *   11  store size not 32 times an N from 2 to 2048
  *   12  record 0's four bytes, mode, role or a byte due to be zero
  *   13  an index of N or more, or met twice
@@ -27,10 +28,15 @@
  *   16  place or total above 4294967295
  *   17  a new record is needed and the greatest index is N - 1
  *
- * A handed-in state of fewer bytes than a state has is refused by 7 alone: there is no state that 1, 2 and 4 could refuse.
+ *   mode   line                              w, line bits in a point   R, line bits in a register   roles
+ *      1   V.27 ter 2400 bit/s                                     2                            7   0
+ *      2   V.27 ter 4800 bit/s                                     3                            7   0
+ *      3   V.32 4800 bit/s                                         2                           23   0, 1
+ *      4   V.32 9600 bit/s, no trellis code                        4                           23   0, 1
  *
- * Modes: 1 V.27 ter 2400 bit/s, 2 V.27 ter 4800, 3 V.32 4800, 4 V.32 9600 without trellis coding. Role 0 is the calling
- * sender, 1 the answering one; modes 1 and 2 have role 0 only.
+ * Role 0 is the calling sender, 1 the answering one; a receiver has the role of the sender that it listens to. A point is re
+ * and im, 1024 to one level. A state of modes 1 and 2 is 0 to 7, at 45 degrees times the number (even ones only in mode 1); of
+ * modes 3 and 4 it is the bits Y1 Y2 Q3 Q4 as a number, Y1 highest (1, 5, 9 and 13 only in mode 3).
  *
  * Numbers in bytes are little-endian.
  */
@@ -51,8 +57,8 @@ extern "C" {
  *    2  1 with a reference, 0 without one         2  the reference
  *    3  the reference, 0 without one              3  zero
  *    4  the register's line bits, u32,            4  the register's line bits, u32,
- *       newest lowest                                newest lowest
- *    8  their count                               8  their count
+ *       newest lowest, zero beyond the count         newest lowest, zero beyond the count
+ *    8  their count, 0 to R                       8  their count, R
  *    9  three zeros                               9  seven zeros
  *   12  the place in unit intervals, u32
  */
@@ -65,16 +71,33 @@ extern "C" {
  *    2  data bits, likewise; an unsettled one is 0
  *    3  how many of the data bits are unsettled: the first ones in time
  *    4  the gap in unit intervals, u32; 0 for the other kinds
+ * Bytes 1 to 3 are 0 for kinds 0 and 2.
  */
 #define KERAMBIU_ANSWER_BYTES 8
 
-/* A receiver that has taken nothing. Refuses by 1, 2 and 7. */
+/*
+ * Makes a receiver that has taken nothing: no reference, no line bits, place 0.
+ *    1, 2     the mode, the role
+ *    7        fewer bytes than a state has
+ */
 uint8_t kerambiu_fresh(uint8_t *state, size_t state_len, uint8_t mode, uint8_t role);
 
-/* Takes a point; the origin is a gap of one interval. Refuses by 1, 2, 4, 7, 8, 10 and 16. */
+/*
+ * Takes a point; the origin is a gap of one interval.
+ *    1, 2, 4  the state, if it has all its bytes
+ *    7        fewer bytes than a state or an answer has
+ *    8, 10    the point
+ *   16        the place after it
+ */
 uint8_t kerambiu_receive_point(uint8_t *state, size_t state_len, int16_t re, int16_t im, uint8_t *answer, size_t answer_len);
 
-/* Takes a gap of n intervals. Refuses by 1, 2, 4, 7, 9 and 16. */
+/*
+ * Takes a gap of n intervals.
+ *    1, 2, 4  the state, if it has all its bytes
+ *    7        fewer bytes than a state or an answer has
+ *    9        n
+ *   16        the place after it
+ */
 uint8_t kerambiu_receive_gap(uint8_t *state, size_t state_len, uint32_t n, uint8_t *answer, size_t answer_len);
 
 /*
@@ -84,7 +107,11 @@ uint8_t kerambiu_receive_gap(uint8_t *state, size_t state_len, uint32_t n, uint8
  *           reference, KERAMBIU_ORIGIN for one at the origin, a gap of one interval
  *   plain   the data bits likewise, an unsettled one being 0, plus 16 times the count of unsettled ones, the first in time;
  *           0 beside KERAMBIU_REFERENCE and KERAMBIU_ORIGIN
- * Refuses by 1, 2, 4, 7, 8, 10 and 16.
+ *
+ *    1, 2, 4  the state, if it has all its bytes
+ *    7        fewer bytes than a state has; an odd count of numbers; in `line` or in `plain` fewer bytes than points
+ *    8, 10    any of the points
+ *   16        the place after all of them
  */
 #define KERAMBIU_REFERENCE 16
 #define KERAMBIU_ORIGIN 17
@@ -93,13 +120,24 @@ uint8_t kerambiu_receive_points(uint8_t *state, size_t state_len, const int16_t 
 
 /*
  * Opens a sender: writes the points of its training, re and im in turn, into the lent numbers from the offset on, and the state
- * after it. Refuses by 1, 2, 3 and 7. The length is 0 or 1 in modes 1 and 2, which take 80 or 1132 points; in modes 3 and 4 it
- * is the intervals of the third segment, and the points are 272 more.
+ * after it. In modes 1 and 2 the length is 0 for 80 points or 1 for 1132; in modes 3 and 4 it is the intervals of the third
+ * segment, and the points are 272 more.
+ *    1, 2, 3  the mode, the role, the length
+ *    7        fewer bytes than a state has; fewer numbers from the offset on than two for each point, or an offset past their
+ *             end
  */
 uint8_t kerambiu_open(uint8_t *state, size_t state_len, uint8_t mode, uint8_t role, uint32_t length, int16_t *out, size_t out_len,
                       size_t offset);
 
-/* Sends data bits, one in a byte, w to a point, and hands on the state. Refuses by 1, 2, 4, 5, 6 and 7. */
+/*
+ * Sends data bits, one in a byte, w to a point: writes the points, re and im in turn, into the lent numbers from the offset on,
+ * and the state after them.
+ *    1, 2, 4  the state, if it has all its bytes
+ *    5        any data byte, also where the state has fewer bytes
+ *    6        the count of data bytes, by the state's mode
+ *    7        fewer bytes than a state has; fewer numbers from the offset on than two for each point, or an offset past their
+ *             end
+ */
 uint8_t kerambiu_send(uint8_t *state, size_t state_len, const uint8_t *input, size_t input_len, int16_t *out, size_t out_len,
                       size_t offset);
 
@@ -108,37 +146,62 @@ uint8_t kerambiu_send(uint8_t *state, size_t state_len, const uint8_t *input, si
  *   record 0   the bytes "VSYM", 4 mode, 5 role, 6 next (u16), 8 total intervals (u32), zeros
  *   others     0 next (u16), 2 kind, 3 count; kind 1: count 1 to 7 points of re, im (i16) from byte 4; kind 2: count 0, lost
  *              intervals (u32 at 4, at least 1); unused bytes zero
- * Next is an index, 0 ends the chain; records outside the chain may hold anything.
+ * Next is an index, 0 ends the chain; next 0 in record 0 is an empty track. Records outside the chain may hold anything. A new
+ * record is the greatest index in the chain (0 if empty) plus one.
  */
 #define KERAMBIU_RECORD_BYTES 32
 
-/* Makes an empty store. Refuses by 1, 2 and 11. */
+/*
+ * Makes an empty store of all the lent bytes: zeros, and record 0.
+ *    1, 2     the mode, the role
+ *   11        the count of bytes
+ */
 uint8_t kerambiu_make(uint8_t *store, size_t store_len, uint8_t mode, uint8_t role);
 
-/* Appends a point. Refuses by 8 and 11 to 17. */
+/*
+ * Appends a point, to the chain's last record if that is of kind 1 with fewer than 7, else in a new one.
+ *    8        the point
+ *   11 to 15  the store
+ *   16        the total after it
+ *   17        a new record is needed and there is none
+ */
 uint8_t kerambiu_append_point(uint8_t *store, size_t store_len, int16_t re, int16_t im);
 
-/* Appends a lost count. Refuses by 9 and 11 to 17. */
+/*
+ * Appends a lost count, always in a new record.
+ *    9        n
+ *   11 to 15  the store
+ *   16        the total after it
+ *   17        there is no new record
+ */
 uint8_t kerambiu_append_lost(uint8_t *store, size_t store_len, uint32_t n);
 
 /*
- * Appends points, re and im in turn, all or none: as one append after the other, or refused with the number of the first that
- * would be refused. Refuses by 7, 8 and 11 to 17; without points there is nothing to refuse.
+ * Appends points, re and im in turn, all or none. Accepted exactly when the count of numbers is even, the store is accepted and
+ * no kerambiu_append_point of them, one after the other, would be refused; then it leaves what those leave.
+ *    7        an odd count of numbers
+ *    8        any of the points
+ *   11 to 15  the store, also without points
+ *   16        the total after all of them
+ *   17        fewer places than points: those left in the chain's last record if it is of kind 1, and 7 for each record after
+ *             the greatest index
  */
 uint8_t kerambiu_append_points(uint8_t *store, size_t store_len, const int16_t *points, size_t points_len);
 
 /*
  * Reads all events in chain order into the lent numbers from the offset on, three to an event: 1, re, im for a point, 2, the
- * count, 0 for lost intervals. count[0] becomes how many events there are. Refuses by 7 and 11 to 15; whether the lent numbers
- * are too few is judged only of a store that 11 to 15 let pass.
+ * count, 0 for lost intervals. count[0] becomes how many events there are.
+ *    7        no lent number for the count; an offset past the end of the numbers; in an accepted store, fewer numbers from the
+ *             offset on than three for each event
+ *   11 to 15  the store
  */
 uint8_t kerambiu_read(const uint8_t *store, size_t store_len, int64_t *out, size_t out_len, size_t offset, size_t *count,
                       size_t count_len);
 
 /*
- * Writes the listing of a store into the lent bytes; count[0] becomes how many bytes the text has. A store that is refused has
- * the one line `refused N` for its listing, so only 7 refuses the call: fewer than KERAMBIU_LISTING_BYTES lent bytes, more than
- * any listing takes, or no lent number for the count.
+ * Writes the listing of a store into the lent bytes; count[0] becomes how many bytes the text has. A store that 11 to 15 refuse
+ * has the one line `refused N` for its listing.
+ *    7        no lent number for the count; fewer bytes than KERAMBIU_LISTING_BYTES, which any listing fits into
  */
 #define KERAMBIU_LISTING_BYTES 372591
 uint8_t kerambiu_list(const uint8_t *store, size_t store_len, uint8_t *out, size_t out_len, size_t *count, size_t count_len);

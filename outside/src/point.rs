@@ -13,10 +13,12 @@ pub struct Point {
 /// The greatest size of a coordinate.
 pub const LARGEST_COORDINATE: i16 = 16384;
 
-/// Whether all coordinates lie from −16384 to 16384.
-pub fn in_range(coordinates: &[i16]) -> bool {
-    let range = -LARGEST_COORDINATE..=LARGEST_COORDINATE;
-    coordinates.iter().all(|x| range.contains(x))
+impl Point {
+    /// Whether both coordinates lie from −16384 to 16384.
+    pub fn in_range(self) -> bool {
+        let range = -LARGEST_COORDINATE..=LARGEST_COORDINATE;
+        range.contains(&self.re) && range.contains(&self.im)
+    }
 }
 
 /// Sent points of V.27 ter, state s at 45° times s.

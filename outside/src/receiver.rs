@@ -2,7 +2,7 @@
 
 use crate::code;
 use crate::mode::Mode;
-use crate::point::{self, Decision};
+use crate::point::{self, Decision, Point};
 use crate::refusal::{need, Refusal};
 use crate::scrambler::Scrambler;
 use crate::units::{BitCount, UnitIntervals};
@@ -54,7 +54,7 @@ pub fn fresh(mode: u8, role: u8) -> Result<Receiver, Refusal> {
 /// 10 and 16.
 pub fn receive_point(state: Receiver, re: i16, im: i16) -> Result<(Answer, Receiver), Refusal> {
     let (mode, scrambler) = checked(&state)?;
-    need(point::in_range(&[re, im]), Refusal::COORDINATE)?;
+    need(Point { re, im }.in_range(), Refusal::COORDINATE)?;
     match point::decide(mode, re, im) {
         Decision::NoSector => Err(Refusal::NO_SECTOR),
         Decision::Origin => pass_gap(state, UnitIntervals(1)),
@@ -146,7 +146,8 @@ pub fn receive_points(
     let count = points.len() / 2;
     let lent = points.len().is_multiple_of(2) && line.len() >= count && plain.len() >= count;
     need(lent, Refusal::LENT_NUMBERS)?;
-    need(point::in_range(points), Refusal::COORDINATE)?;
+    let in_range = |x: &i16| (-16384..=16384).contains(x);
+    need(points.iter().all(in_range), Refusal::COORDINATE)?;
     let left = (u32::MAX - state.place.0) as usize;
     need(count <= left, Refusal::TOO_LONG)?;
     let mut next = state;
@@ -164,7 +165,8 @@ pub fn receive_points(
     Ok(next)
 }
 
-fn block_bytes(width: u32, answer: Answer) -> (u8, u8) {
+/// The bytes of a point in a block: its line bits, then its data bits.
+pub fn block_bytes(width: u32, answer: Answer) -> (u8, u8) {
     match answer {
         Answer::Reference => (REFERENCE_BYTE, 0),
         Answer::Gap(_) => (GAP_BYTE, 0),

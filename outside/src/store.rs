@@ -1,7 +1,7 @@
 //! The track store on bytes (document 01, "Track store").
 
 use crate::mode::Mode;
-use crate::point::{in_range, Point};
+use crate::point::Point;
 use crate::refusal::{need, Refusal};
 
 /// The bytes in a record.
@@ -128,10 +128,7 @@ fn parse_record(record: &[u8]) -> Option<Record> {
         KIND_POINTS if (1..=RECORD_POINTS).contains(&count) => {
             let (points, unused) = record[BODY_AT..].split_at(POINT_BYTES * count);
             let mut points = points.chunks_exact(POINT_BYTES);
-            let fits = points.all(|bytes| {
-                let Point { re, im } = point_at(bytes, 0);
-                in_range(&[re, im])
-            });
+            let fits = points.all(|bytes| point_at(bytes, 0).in_range());
             (fits && all_zero(unused)).then_some(Record::Points(count))
         }
         KIND_LOST if count == 0 => {
@@ -288,12 +285,14 @@ pub fn append_lost(store: &mut [u8], n: u32) -> Result<(), Refusal> {
 /// a last number without its partner, 8 for any point out of range, 11 to 15, 16
 /// for the total after all of them, 17 for fewer places than points.
 pub fn append_points(store: &mut [u8], numbers: &[i16]) -> Result<(), Refusal> {
-    need(numbers.len().is_multiple_of(2), Refusal::LENT_NUMBERS)?;
-    need(in_range(numbers), Refusal::COORDINATE)?;
+    let (pairs, rest) = numbers.as_chunks();
+    let points = || pairs.iter().map(|&[re, im]| Point { re, im });
+    need(rest.is_empty(), Refusal::LENT_NUMBERS)?;
+    need(points().all(Point::in_range), Refusal::COORDINATE)?;
     let mut chain = check(store)?;
-    let total = chain.total_after(store, numbers.len() / 2)?;
-    for pair in numbers.chunks_exact(2) {
-        put_point(store, &mut chain, pair);
+    let total = chain.total_after(store, pairs.len())?;
+    for point in points() {
+        put_point(store, &mut chain, point);
     }
     set_total(store, total);
     Ok(())
@@ -313,7 +312,7 @@ impl Chain {
 }
 
 /// Writes a point behind the last of the chain.
-fn put_point(store: &mut [u8], chain: &mut Chain, pair: &[i16]) {
+fn put_point(store: &mut [u8], chain: &mut Chain, point: Point) {
     if chain.room == 0 {
         add_record(store, chain, KIND_POINTS);
         chain.room = RECORD_POINTS;
@@ -321,8 +320,8 @@ fn put_point(store: &mut [u8], chain: &mut Chain, pair: &[i16]) {
     let count = RECORD_POINTS - chain.room;
     let record = RECORD * chain.last;
     let at = record + BODY_AT + POINT_BYTES * count;
-    store[at..at + 2].copy_from_slice(&pair[0].to_le_bytes());
-    store[at + 2..at + 4].copy_from_slice(&pair[1].to_le_bytes());
+    store[at..at + 2].copy_from_slice(&point.re.to_le_bytes());
+    store[at + 2..at + 4].copy_from_slice(&point.im.to_le_bytes());
     store[record + COUNT_AT] = count as u8 + 1;
     chain.room -= 1;
 }

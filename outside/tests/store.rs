@@ -422,7 +422,7 @@ fn points_at_once_equal_single_appends() {
         assert_eq!(found, applying.first().copied().unwrap_or(0));
         let mut single = before.clone();
         let mut pairs = numbers.chunks(2);
-        let taken = numbers.len() % 2 == 0
+        let taken = numbers.len().is_multiple_of(2)
             && read(&before).is_ok()
             && pairs.all(|pair| append_point(&mut single, pair[0], pair[1]).is_ok());
         assert_eq!(found == 0, taken);

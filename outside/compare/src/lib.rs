@@ -1,13 +1,16 @@
 //! The proved library, called through its C functions, and what the comparison
 //! programs share.
 
-pub mod blocks;
+pub mod bulk;
+pub mod faults;
 pub mod layout;
+pub mod line;
 pub mod listing;
 pub mod ours;
 pub mod points;
 pub mod receiving;
 pub mod sending;
+pub mod signal;
 pub mod stores;
 pub mod storing;
 pub mod tally;

@@ -4,7 +4,8 @@ use outside::listing;
 use outside::rng::Rng;
 use outside::tuned;
 
-use crate::tally::{one_or_two, Tally};
+use crate::faults::one_or_two;
+use crate::tally::Tally;
 use crate::{ours, stores};
 
 /// Bytes beyond the text, to show what a call leaves.

@@ -7,24 +7,21 @@ use outside::rng::Rng;
 /// The least size of a coordinate on an edge of mode 4.
 const LEVEL_EDGE: i64 = 2048;
 
-/// A point at which a decision changes, before noise and turns.
-fn edge(rng: &mut Rng, mode: u8) -> (i64, i64) {
-    let along = rng.between(0, 8190);
+/// Points at which a mode's decision changes, so far along each of its edges; the
+/// others are their turns.
+pub fn edges(mode: u8, along: i64) -> Vec<(i64, i64)> {
+    // tan 22.5° is 0.41421356.
+    let less = along * 41_421_356 / 100_000_000;
     match mode {
-        1 => (along, along),
-        // tan 22.5° is 0.41421356.
-        2 if rng.below(2) == 0 => (along, along * 41_421_356 / 100_000_000),
-        2 => (along * 41_421_356 / 100_000_000, along),
-        3 => (along, 2 * along),
-        _ => match rng.below(3) {
-            0 => (along, 0),
-            1 => (LEVEL_EDGE, along),
-            _ => (along, LEVEL_EDGE),
-        },
+        1 => vec![(along, along)],
+        2 => vec![(along, less), (less, along)],
+        3 => vec![(along, 2 * along)],
+        _ => vec![(along, 0), (LEVEL_EDGE, along), (along, LEVEL_EDGE)],
     }
 }
 
-fn turned((re, im): (i64, i64), quarters: u64) -> (i64, i64) {
+/// A point turned by so many times 90°.
+pub fn turned((re, im): (i64, i64), quarters: u64) -> (i64, i64) {
     (0..quarters).fold((re, im), |(re, im), _| (-im, re))
 }
 
@@ -41,12 +38,11 @@ pub fn in_range(rng: &mut Rng, mode: &Mode) -> Point {
     match rng.below(4) {
         0 => {
             let quarters = rng.below(4);
-            let base = turned(edge(rng, mode.number), quarters);
-            near(base, rng, 2)
+            let edges = edges(mode.number, rng.between(0, 8190));
+            near(turned(rng.pick(&edges), quarters), rng, 2)
         }
         1 => {
-            let state = mode.states[rng.below(mode.states.len() as u64) as usize];
-            let sent = point::sent(mode, state);
+            let sent = point::sent(mode, rng.pick(mode.states));
             near((i64::from(sent.re), i64::from(sent.im)), rng, 900)
         }
         2 => near((0, 0), rng, 1),

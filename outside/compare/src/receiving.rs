@@ -8,8 +8,8 @@ use outside::rng::Rng;
 use outside::units::{BitCount, UnitIntervals};
 
 use crate::layout::{self, ANSWER, STATE};
-use crate::tally::{one_or_two, Tally};
-use crate::{ours, points};
+use crate::tally::Tally;
+use crate::{faults, ours, points};
 
 /// Bytes of an answer before a call, to show what a call leaves.
 const UNWRITTEN: u8 = 0xa5;
@@ -48,18 +48,12 @@ struct Call {
     answer: Vec<u8>,
 }
 
-/// A random mode and one of its roles.
-pub fn mode_and_role(rng: &mut Rng) -> (&'static Mode, u8) {
-    let mode = &MODES[rng.below(4) as usize];
-    (mode, rng.below(mode.near_taps.len() as u64) as u8)
-}
-
 /// A state that numbers 1, 2 and 4 let pass.
 pub fn sound_state(rng: &mut Rng, mode: &Mode, role: u8) -> Receiver {
     let mut state = receiver::fresh(mode.number, role).expect("a mode and its role");
     if rng.below(3) > 0 {
         let held = rng.between(0, i64::from(mode.register_length)) as u32;
-        state.reference = Some(mode.states[rng.below(mode.states.len() as u64) as usize]);
+        state.reference = Some(rng.pick(mode.states));
         state.register = rng.below(1 << held) as u32;
         state.held = BitCount(held);
     }
@@ -86,11 +80,7 @@ pub fn break_field(rng: &mut Rng, mode: &Mode, state: &mut [u8; STATE]) {
         // A reference that is no state of the mode.
         0 => {
             state[2] = 1;
-            state[3] = (0..=255u8)
-                .cycle()
-                .skip(rng.below(256) as usize)
-                .find(|&s| !mode.has_state(s))
-                .unwrap_or(255);
+            state[3] = faults::no_state(rng, mode);
         }
         // More than R line bits.
         1 => state[8] = rng.between(i64::from(length) + 1, 255) as u8,
@@ -118,11 +108,11 @@ pub fn break_field(rng: &mut Rng, mode: &Mode, state: &mut [u8; STATE]) {
 fn put_fault(rng: &mut Rng, mode: &Mode, call: &mut Call, fault: Fault) -> u8 {
     match fault {
         Fault::Mode => {
-            call.state[0] = [0, rng.between(5, 255) as u8][rng.below(2) as usize];
+            call.state[0] = faults::no_mode(rng);
             1
         }
         Fault::Role => {
-            call.state[1] = rng.between(mode.near_taps.len() as i64, 255) as u8;
+            call.state[1] = faults::no_role(rng, mode);
             2
         }
         Fault::Field => {
@@ -172,8 +162,9 @@ fn expected(call: &Call) -> (u8, [u8; STATE], Vec<u8>) {
     }
 }
 
-/// Runs a call on both sides; gives its number and the state after it.
-fn run(tally: &mut Tally, call: &Call) -> (u8, [u8; STATE]) {
+/// Runs a call on both sides; gives its number, and the bytes of state and
+/// answer after it.
+fn run(tally: &mut Tally, call: &Call) -> (u8, [u8; STATE], Vec<u8>) {
     let (mut state, mut answer) = (call.state, call.answer.clone());
     let number = match call.event {
         Event::Point(point) => ours::receive_point(&mut state, point.re, point.im, &mut answer),
@@ -185,13 +176,24 @@ fn run(tally: &mut Tally, call: &Call) -> (u8, [u8; STATE]) {
         number == right && state == right_state && answer == right_answer,
         || format!("receiver, state {:?}: {number} {state:?} {answer:?}, outside {right} {right_state:?} {right_answer:?}", call.state),
     );
-    (number, state)
+    (number, state, answer)
+}
+
+/// Hands a point to both sides; gives the bytes of state and answer after it.
+pub fn run_point(tally: &mut Tally, state: [u8; STATE], point: Point) -> ([u8; STATE], Vec<u8>) {
+    let call = Call {
+        state,
+        event: Event::Point(point),
+        answer: vec![UNWRITTEN; ANSWER],
+    };
+    let (_, after, answer) = run(tally, &call);
+    (after, answer)
 }
 
 /// One list of calls. Refused ones belong to it: the next call gets the state
 /// that the refused one should have got.
 fn run_list(tally: &mut Tally, rng: &mut Rng, length: usize) {
-    let (mode, role) = mode_and_role(rng);
+    let (mode, role) = rng.mode_and_role();
     let mut state = layout::receiver_bytes(&sound_state(rng, mode, role));
     for _ in 0..length {
         let mut call = Call {
@@ -203,11 +205,11 @@ fn run_list(tally: &mut Tally, rng: &mut Rng, length: usize) {
             state = run(tally, &call).1;
             continue;
         }
-        let faults: Vec<u8> = one_or_two(rng, &FAULTS)
+        let faults: Vec<u8> = faults::one_or_two(rng, &FAULTS)
             .into_iter()
             .map(|fault| put_fault(rng, mode, &mut call, fault))
             .collect();
-        let (number, _) = run(tally, &call);
+        let (number, ..) = run(tally, &call);
         tally.expect_lowest(&faults, number);
     }
 }
@@ -228,6 +230,7 @@ fn run_fresh(tally: &mut Tally) {
                         0
                     }
                 };
+                tally.count(number);
                 tally.check(number == refused && state == right, || {
                     format!("fresh {mode} {role} {size}: {number} {state:?}")
                 });
@@ -236,16 +239,25 @@ fn run_fresh(tally: &mut Tally) {
     }
 }
 
-/// Too few bytes of state: number 7, and nothing is written.
+/// Too few bytes of state: number 7, whatever the points or the gap, and nothing
+/// is written.
 fn run_short_states(tally: &mut Tally) {
     for size in 0..STATE {
-        let (mut state, mut answer) = (vec![1; size], vec![UNWRITTEN; ANSWER]);
-        let point = ours::receive_point(&mut state, 4096, 0, &mut answer);
-        let gap = ours::receive_gap(&mut state, 1, &mut answer);
-        let kept = state == vec![1; size] && answer == vec![UNWRITTEN; ANSWER];
-        tally.check(point == 7 && gap == 7 && kept, || {
-            format!("a state of {size} bytes")
-        });
+        for re in [0, 4096, 16385] {
+            let (mut state, mut answer) = (vec![1; size], vec![UNWRITTEN; ANSWER]);
+            let mut other = answer.clone();
+            let numbers = [
+                ours::receive_point(&mut state, re, 0, &mut answer),
+                ours::receive_gap(&mut state, re as u32, &mut answer),
+                ours::receive_points(&mut state, &[re, 0], &mut answer, &mut other),
+                ours::receive_points(&mut state, &[], &mut answer, &mut other),
+            ];
+            numbers.iter().for_each(|&number| tally.count(number));
+            let kept = state == vec![1; size] && answer == [UNWRITTEN; ANSWER] && other == answer;
+            tally.check(numbers == [7; 4] && kept, || {
+                format!("a state of {size} bytes: {numbers:?}")
+            });
+        }
     }
 }
 
@@ -255,7 +267,8 @@ pub fn compare(events: u64) -> bool {
     let mut rng = Rng::new(SEED);
     run_fresh(&mut tally);
     run_short_states(&mut tally);
-    while tally.calls() < events {
+    let others = tally.calls();
+    while tally.calls() < others + events {
         let length = rng.between(1, 60) as usize;
         run_list(&mut tally, &mut rng, length);
     }

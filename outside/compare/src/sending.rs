@@ -1,21 +1,22 @@
 //! Opening and sending: training sequences, data in lists of calls, and the
 //! refusals 1 to 7.
 
-use outside::mode::{Mode, MODES};
+use outside::mode::{modes_and_roles, Line, Mode};
 use outside::rng::Rng;
 use outside::sender::{self, Sender};
+use outside::training::Training;
 use outside::tuned;
 use outside::units::BitCount;
 
 use crate::layout::{self, STATE};
-use crate::ours;
-use crate::tally::{one_or_two, Tally};
+use crate::tally::Tally;
+use crate::{faults, ours};
 
 /// A lent number before a call, to show what a call leaves.
 const UNWRITTEN: i16 = 0x5a5a;
 const SEED: u64 = 2;
 
-/// What opening and sending are given.
+/// What opening is given.
 struct Opening {
     mode: u8,
     role: u8,
@@ -25,8 +26,8 @@ struct Opening {
     state_size: usize,
 }
 
-/// Opens on both sides; gives the number and the state after it.
-fn run_open(tally: &mut Tally, call: &Opening) -> (u8, Vec<u8>) {
+/// Opens on both sides; gives the number.
+fn run_open(tally: &mut Tally, call: &Opening) -> u8 {
     let mut out = vec![UNWRITTEN; call.lent];
     let (mut right_out, mut state) = (out.clone(), vec![0x33; call.state_size]);
     let mut right_state = state.clone();
@@ -57,73 +58,90 @@ fn run_open(tally: &mut Tally, call: &Opening) -> (u8, Vec<u8>) {
             call.mode, call.role, call.length
         )
     });
-    (number, state)
+    number
 }
 
-/// Sends on both sides; gives the number and the state after it.
-fn run_send(
-    tally: &mut Tally,
-    state: [u8; STATE],
-    input: &[u8],
-    lent: usize,
-    offset: usize,
-) -> (u8, [u8; STATE]) {
-    let mut out = vec![UNWRITTEN; lent];
-    let (mut right_out, mut tuned_out) = (out.clone(), out.clone());
-    let (mut after, mut right_after) = (state, state);
+/// The number, the state and the lent numbers after a call.
+pub struct Sent {
+    pub number: u8,
+    pub state: Vec<u8>,
+    pub out: Vec<i16>,
+}
+
+/// What the outside implementation makes of a call. Of a state of too few bytes
+/// nothing is judged: number 7, unless a data byte gives the lower 5.
+fn expected(tally: &mut Tally, state: &[u8], input: &[u8], lent: usize, offset: usize) -> Sent {
+    let mut right = Sent {
+        number: 0,
+        state: state.to_vec(),
+        out: vec![UNWRITTEN; lent],
+    };
+    let Some(bytes) = right.state.first_chunk_mut::<STATE>() else {
+        let wrong = input.iter().any(|&byte| byte > 1);
+        right.number = if wrong { 5 } else { 7 };
+        return right;
+    };
+    let mut tuned_out = right.out.clone();
+    let start = layout::sender_of(bytes);
+    let told = sender::send(start, input, &mut right.out, offset);
+    match told {
+        Err(refusal) => right.number = refusal.0,
+        Ok(next) => *bytes = layout::sender_bytes(&next),
+    }
+    let tuned = tuned::send(start, input, &mut tuned_out, offset);
+    tally.check(tuned == told && tuned_out == right.out, || {
+        format!("send {start:?} {input:?} {lent} {offset}: tuned {tuned:?}, plain {told:?}")
+    });
+    right
+}
+
+/// Sends on both sides, into so many lent numbers.
+pub fn run_send(tally: &mut Tally, state: &[u8], input: &[u8], lent: usize, offset: usize) -> Sent {
+    let (mut after, mut out) = (state.to_vec(), vec![UNWRITTEN; lent]);
     let number = ours::send(&mut after, input, &mut out, offset);
     tally.count(number);
-    let start = layout::sender_of(&state);
-    let told = sender::send(start, input, &mut right_out, offset);
-    let tuned = tuned::send(start, input, &mut tuned_out, offset);
-    tally.check(tuned == told && tuned_out == right_out, || {
-        format!("send {state:?} {input:?} {lent} {offset}: tuned {tuned:?}, plain {told:?}")
-    });
-    let right = match told {
-        Err(refusal) => refusal.0,
-        Ok(next) => {
-            right_after = layout::sender_bytes(&next);
-            0
-        }
-    };
-    let same = number == right && after == right_after && out == right_out;
+    let right = expected(tally, state, input, lent, offset);
+    let same = number == right.number && after == right.state && out == right.out;
     tally.check(same, || {
+        let right = right.number;
         format!("send {state:?} {input:?} {lent} {offset}: {number}, outside {right}")
     });
-    (number, after)
+    Sent {
+        number,
+        state: after,
+        out,
+    }
 }
 
-fn intervals(mode: &Mode, length: u32) -> usize {
-    outside::training::Training::of(mode, length).map_or(0, |training| training.intervals())
+/// The points of a training, none where the mode has no such length.
+pub fn intervals(mode: &Mode, length: u32) -> usize {
+    Training::of(mode, length).map_or(0, |training| training.intervals())
 }
 
 /// The least and the greatest training length of a mode.
-fn lengths(mode: &Mode) -> (u32, u32) {
-    if mode.number <= 2 {
-        (0, 1)
-    } else {
-        (1280, 8192)
+pub fn lengths(mode: &Mode) -> (u32, u32) {
+    match mode.line {
+        Line::V27ter => (0, 1),
+        Line::V32 => (1280, 8192),
     }
 }
 
 /// Every training sequence, at some offset, with numbers left before and behind.
 fn run_trainings(tally: &mut Tally, rng: &mut Rng) {
-    for mode in &MODES {
-        for role in 0..mode.near_taps.len() as u8 {
-            let (least, most) = lengths(mode);
-            for length in least..=most {
-                let offset = rng.below(9) as usize;
-                let behind = rng.below(9) as usize;
-                let call = Opening {
-                    mode: mode.number,
-                    role,
-                    length,
-                    lent: offset + 2 * intervals(mode, length) + behind,
-                    offset,
-                    state_size: STATE + rng.below(3) as usize,
-                };
-                run_open(tally, &call);
-            }
+    for (mode, role) in modes_and_roles() {
+        let (least, most) = lengths(mode);
+        for length in least..=most {
+            let offset = rng.below(9) as usize;
+            let behind = rng.below(9) as usize;
+            let call = Opening {
+                mode: mode.number,
+                role,
+                length,
+                lent: offset + 2 * intervals(mode, length) + behind,
+                offset,
+                state_size: STATE + rng.below(3) as usize,
+            };
+            run_open(tally, &call);
         }
     }
 }
@@ -133,7 +151,7 @@ fn sound_state(rng: &mut Rng, mode: &Mode, role: u8) -> [u8; STATE] {
     layout::sender_bytes(&Sender {
         mode: mode.number,
         role,
-        reference: mode.states[rng.below(mode.states.len() as u64) as usize],
+        reference: rng.pick(mode.states),
         register: rng.below(1 << mode.register_length) as u32,
         held: BitCount(mode.register_length),
     })
@@ -141,60 +159,49 @@ fn sound_state(rng: &mut Rng, mode: &Mode, role: u8) -> [u8; STATE] {
 
 /// A list of sending calls of random data, refused ones among them.
 fn run_data(tally: &mut Tally, rng: &mut Rng) {
-    let mode = &MODES[rng.below(4) as usize];
-    let role = rng.below(mode.near_taps.len() as u64) as u8;
-    let mut state = sound_state(rng, mode, role);
+    let (mode, role) = rng.mode_and_role();
+    let mut state = sound_state(rng, mode, role).to_vec();
+    // Bytes behind a state are left.
+    state.extend(rng.bits(3));
     for _ in 0..rng.between(1, 12) {
         let points = rng.below(40) as usize;
         let input = rng.bits(points * mode.width as usize);
         let offset = rng.below(7) as usize;
-        state = run_send(
-            tally,
-            state,
-            &input,
-            offset + 2 * points + rng.below(5) as usize,
-            offset,
-        )
-        .1;
+        let lent = offset + 2 * points + rng.below(5) as usize;
+        state = run_send(tally, &state, &input, lent, offset).state;
     }
 }
 
 /// Breaks another field of a state than mode and role.
 fn break_field(rng: &mut Rng, mode: &Mode, state: &mut [u8; STATE]) {
     match rng.below(5) {
-        0 => {
-            state[2] = (0..=255u8)
-                .cycle()
-                .skip(rng.below(256) as usize)
-                .find(|&s| !mode.has_state(s))
-                .unwrap_or(255)
-        }
+        0 => state[2] = faults::no_state(rng, mode),
         1 => state[8] = rng.below(u64::from(mode.register_length)) as u8,
         2 => state[8] = rng.between(i64::from(mode.register_length) + 1, 255) as u8,
         3 => state[4..8].copy_from_slice(
             &(1u32 << rng.between(i64::from(mode.register_length), 31)).to_le_bytes(),
         ),
         _ => {
-            state[[3, 9, 10, 11, 12, 13, 14, 15][rng.below(8) as usize]] = rng.between(1, 255) as u8
+            let zero = rng.pick(&[3, 9, 10, 11, 12, 13, 14, 15]);
+            state[zero] = rng.between(1, 255) as u8;
         }
     }
 }
 
 /// A sending call with one or two of the faults 1, 2, 4, 5, 6 and 7.
 fn run_send_faults(tally: &mut Tally, rng: &mut Rng) {
-    let mode = &MODES[rng.below(4) as usize];
+    let (mode, role) = rng.mode_and_role();
     let width = mode.width as usize;
-    let role = rng.below(mode.near_taps.len() as u64) as u8;
     let mut state = sound_state(rng, mode, role);
     let points = 1 + rng.below(9) as usize;
     let mut input = rng.bits(width * points);
     let offset = rng.below(7) as usize;
     let mut lent = offset + 2 * points;
-    let faults = one_or_two(rng, &[1, 2, 4, 5, 6, 7]);
+    let faults = faults::one_or_two(rng, &[1, 2, 4, 5, 6, 7]);
     for &fault in &faults {
         match fault {
-            1 => state[0] = [0, rng.between(5, 255) as u8][rng.below(2) as usize],
-            2 => state[1] = rng.between(mode.near_taps.len() as i64, 255) as u8,
+            1 => state[0] = faults::no_mode(rng),
+            2 => state[1] = faults::no_role(rng, mode),
             4 => break_field(rng, mode, &mut state),
             5 => {
                 let at = rng.below(input.len() as u64) as usize;
@@ -204,32 +211,61 @@ fn run_send_faults(tally: &mut Tally, rng: &mut Rng) {
             _ => lent -= 1 + rng.below(lent as u64) as usize,
         }
     }
-    let (number, _) = run_send(tally, state, &input, lent, offset);
-    tally.expect_lowest(&faults, number);
+    let sent = run_send(tally, &state, &input, lent, offset);
+    tally.expect_lowest(&faults, sent.number);
+}
+
+/// A state of too few bytes, with and without a data byte above 1: bits that are
+/// a multiple of w or not, and lent numbers that are enough or not.
+fn run_short_state(tally: &mut Tally, rng: &mut Rng, state: &[u8]) {
+    for count in 0..=8 {
+        for (lent, offset) in [(0, 0), (0, 1), (9, 1), (9, 10)] {
+            let mut input = rng.bits(count);
+            let sent = run_send(tally, state, &input, lent, offset);
+            tally.expect_lowest(&[7], sent.number);
+            if count > 0 {
+                let at = rng.below(count as u64) as usize;
+                input[at] = rng.between(2, 255) as u8;
+                let sent = run_send(tally, state, &input, lent, offset);
+                tally.expect_lowest(&[7, 5], sent.number);
+            }
+        }
+    }
+}
+
+/// The first bytes of a state, and bytes that no state begins with.
+fn run_short_states(tally: &mut Tally, rng: &mut Rng) {
+    for size in 0..STATE {
+        for (mode, role) in modes_and_roles() {
+            let state = sound_state(rng, mode, role);
+            run_short_state(tally, rng, &state[..size]);
+        }
+        run_short_state(tally, rng, &[255; STATE][..size]);
+    }
 }
 
 /// An opening with one or two of the faults 1, 2, 3 and 7 (numbers or bytes too few).
 fn run_open_faults(tally: &mut Tally, rng: &mut Rng) {
-    let mode = &MODES[rng.below(4) as usize];
+    let (mode, role) = rng.mode_and_role();
     let (least, most) = lengths(mode);
     let mut call = Opening {
         mode: mode.number,
-        role: rng.below(mode.near_taps.len() as u64) as u8,
+        role,
         length: rng.between(i64::from(least), i64::from(most)) as u32,
         lent: 0,
         offset: rng.below(5) as usize,
         state_size: STATE,
     };
     call.lent = call.offset + 2 * intervals(mode, call.length);
-    let faults = one_or_two(rng, &[1, 2, 3, 7]);
+    let faults = faults::one_or_two(rng, &[1, 2, 3, 7]);
     for &fault in &faults {
         match fault {
-            1 => call.mode = [0, rng.between(5, 255) as u8][rng.below(2) as usize],
-            2 => call.role = rng.between(mode.near_taps.len() as i64, 255) as u8,
-            3 if mode.number <= 2 => call.length = rng.between(2, 9000) as u32,
+            1 => call.mode = faults::no_mode(rng),
+            2 => call.role = faults::no_role(rng, mode),
+            3 if mode.line == Line::V27ter => call.length = rng.between(2, 9000) as u32,
             3 => {
-                call.length = [rng.below(1280) as u32, rng.between(8193, 1 << 31) as u32]
-                    [rng.below(2) as usize]
+                let beyond = [rng.below(1280) as u32, rng.between(8193, 1 << 31) as u32];
+                call.length = rng.pick(&beyond);
             }
             _ => match rng.below(3) {
                 0 => call.lent -= 1 + rng.below(call.lent as u64) as usize,
@@ -238,7 +274,7 @@ fn run_open_faults(tally: &mut Tally, rng: &mut Rng) {
             },
         }
     }
-    let (number, _) = run_open(tally, &call);
+    let number = run_open(tally, &call);
     tally.expect_lowest(&faults, number);
 }
 
@@ -251,7 +287,9 @@ pub fn compare(calls: u64) -> bool {
         "sender: all {} training sequences; data, seed {SEED}",
         tally.calls()
     );
-    while tally.calls() < calls {
+    run_short_states(&mut tally, &mut rng);
+    let others = tally.calls();
+    while tally.calls() < others + calls {
         run_data(&mut tally, &mut rng);
         run_send_faults(&mut tally, &mut rng);
         if rng.below(8) == 0 {

@@ -1,8 +1,9 @@
 //! Random stores: sound ones, and ways to damage them.
 
-use outside::mode::MODES;
 use outside::rng::Rng;
 use outside::store::{MOST_RECORDS, RECORD, RECORD_POINTS};
+
+use crate::faults::no_mode;
 
 /// Where a record names the next one; record 0 has its own place.
 fn link_at(index: usize) -> usize {
@@ -81,11 +82,11 @@ pub fn sound(rng: &mut Rng) -> Vec<u8> {
     let mut store: Vec<u8> = (0..RECORD * records)
         .map(|_| rng.next_u64() as u8)
         .collect();
-    let mode = &MODES[rng.below(4) as usize];
+    let (mode, role) = rng.mode_and_role();
     store[..RECORD].fill(0);
     store[..4].copy_from_slice(b"VSYM");
     store[4] = mode.number;
-    store[5] = rng.below(mode.near_taps.len() as u64) as u8;
+    store[5] = role;
     let mut order: Vec<usize> = (1..records).collect();
     for k in (1..order.len()).rev() {
         order.swap(k, rng.below(k as u64 + 1) as usize);
@@ -121,7 +122,7 @@ fn break_record_0(rng: &mut Rng, store: &mut [u8]) {
     }
     match rng.below(4) {
         0 => store[rng.below(4) as usize] ^= 1 << rng.below(8),
-        1 => store[4] = [0, rng.between(5, 255) as u8][rng.below(2) as usize],
+        1 => store[4] = no_mode(rng),
         2 => store[5] = rng.between(2, 255) as u8,
         _ => store[12 + rng.below(20) as usize] = rng.between(1, 255) as u8,
     }
@@ -139,7 +140,7 @@ fn break_link(rng: &mut Rng, store: &mut [u8]) {
     let next = if met.is_empty() || rng.below(2) == 0 {
         rng.between(records as i64, 65535) as usize
     } else {
-        met[rng.below(met.len() as u64) as usize]
+        rng.pick(met)
     };
     set_link(store, from[at], next);
 }
@@ -149,7 +150,7 @@ fn break_record(rng: &mut Rng, store: &mut [u8]) {
     if chain.is_empty() {
         return;
     }
-    let index = chain[rng.below(chain.len() as u64) as usize];
+    let index = rng.pick(&chain);
     let record = &mut store[RECORD * index..RECORD * (index + 1)];
     let points = record[2] == 1;
     match rng.below(5) {

@@ -4,10 +4,11 @@ use outside::mode::MODES;
 use outside::point::Point;
 use outside::refusal::Refusal;
 use outside::rng::Rng;
-use outside::store;
+use outside::store::{self, RECORD, RECORD_POINTS};
 use outside::tuned;
 
-use crate::tally::{one_or_two, Tally};
+use crate::faults::one_or_two;
+use crate::tally::Tally;
 use crate::{ours, points, stores};
 
 const SEED: u64 = 3;
@@ -17,14 +18,15 @@ enum Call {
     Make(u8, u8),
     Point(Point),
     Lost(u32),
-    Points(Vec<Point>),
+    /// The numbers of points.
+    Points(Vec<i16>),
 }
 
 fn random_point(rng: &mut Rng) -> Point {
     if rng.below(12) == 0 {
         return points::out_of_range(rng);
     }
-    let mode = &MODES[rng.below(4) as usize];
+    let (mode, _) = rng.mode_and_role();
     points::in_range(rng, mode)
 }
 
@@ -37,8 +39,9 @@ fn random_call(rng: &mut Rng) -> Call {
             Call::Lost(if rng.below(10) == 0 { 0 } else { n })
         }
         _ => {
-            let count = rng.below(30) as usize;
-            Call::Points((0..count).map(|_| random_point(rng)).collect())
+            let count = rng.below(30);
+            let points: Vec<Point> = (0..count).map(|_| random_point(rng)).collect();
+            Call::Points(points::flat(&points))
         }
     }
 }
@@ -59,9 +62,9 @@ fn run(tally: &mut Tally, before: &[u8], call: &Call) -> (u8, Vec<u8>) {
             ours::append_lost(&mut bytes, *n),
             store::append_lost(&mut right_bytes, *n),
         ),
-        Call::Points(points) => (
-            ours::append_points(&mut bytes, &points::flat(points)),
-            store::append_points(&mut right_bytes, points),
+        Call::Points(numbers) => (
+            ours::append_points(&mut bytes, numbers),
+            store::append_points(&mut right_bytes, numbers),
         ),
     };
     let right = right.err().map_or(0, |Refusal(number)| number);
@@ -71,6 +74,9 @@ fn run(tally: &mut Tally, before: &[u8], call: &Call) -> (u8, Vec<u8>) {
         format!("store of {} bytes: {number}, outside {right}", before.len())
     });
     run_tuned(tally, before, call, right, &right_bytes);
+    if let Call::Points(numbers) = call {
+        run_singly(tally, before, numbers, (number, &bytes));
+    }
     (number, bytes)
 }
 
@@ -78,7 +84,7 @@ fn run(tally: &mut Tally, before: &[u8], call: &Call) -> (u8, Vec<u8>) {
 fn run_tuned(tally: &mut Tally, before: &[u8], call: &Call, right: u8, right_bytes: &[u8]) {
     let numbers = match call {
         Call::Point(point) => vec![point.re, point.im],
-        Call::Points(points) => points::flat(points),
+        Call::Points(numbers) => numbers.clone(),
         Call::Make(..) | Call::Lost(_) => return,
     };
     let mut bytes = before.to_vec();
@@ -89,6 +95,23 @@ fn run_tuned(tally: &mut Tally, before: &[u8], call: &Call, right: u8, right_byt
             "store of {} bytes: tuned {number}, plain {right}",
             before.len()
         )
+    });
+}
+
+/// Points at once against single appends, one after the other: accepted exactly
+/// when the count of numbers is even, the store is accepted and no single append
+/// is refused; then the bytes are those after them.
+fn run_singly(tally: &mut Tally, before: &[u8], numbers: &[i16], at_once: (u8, &[u8])) {
+    let mut bytes = before.to_vec();
+    let mut pairs = numbers.chunks(2);
+    let taken = numbers.len().is_multiple_of(2)
+        && store::read(before).is_ok()
+        && pairs.all(|pair| ours::append_point(&mut bytes, pair[0], pair[1]) == 0);
+    let (number, left) = at_once;
+    let same = (number == 0) == taken && left == if taken { &bytes } else { before };
+    tally.check(same, || {
+        let count = numbers.len();
+        format!("{count} numbers at once: {number}, singly accepted: {taken}")
     });
 }
 
@@ -145,10 +168,11 @@ fn run_damaged(tally: &mut Tally, rng: &mut Rng) {
         stores::damage(rng, &mut store, fault);
     }
     let point = points::in_range(rng, &MODES[0]);
-    let call = match rng.below(3) {
+    let call = match rng.below(4) {
         0 => Call::Point(point),
         1 => Call::Lost(1),
-        _ => Call::Points(vec![point; 3]),
+        2 => Call::Points(Vec::new()),
+        _ => Call::Points(points::flat(&[point; 3])),
     };
     let (number, _) = run(tally, &store, &call);
     tally.expect_lowest(&faults, number);
@@ -156,15 +180,67 @@ fn run_damaged(tally: &mut Tally, rng: &mut Rng) {
     run_read(tally, rng, &store);
 }
 
-/// A last number without its partner: number 7, and nothing is written.
-fn run_odd(tally: &mut Tally, rng: &mut Rng) {
-    let before = stores::sound(rng);
-    let mut bytes = before.clone();
-    let number = ours::append_points(&mut bytes, &[4096, 0, 1]);
-    tally.count(number);
-    tally.check(number == 7 && bytes == before, || {
-        format!("odd numbers: {number}")
-    });
+/// A store near its end, and a count of points that 16 or 17 refuses there, or
+/// both or none of them. A lost count stands before some points, and keeps the
+/// total near the greatest.
+fn near_end(rng: &mut Rng, long: bool, full: bool) -> (Vec<u8>, usize) {
+    let records = rng.between(3, 6) as usize;
+    let held = rng.below(7) as usize;
+    let places = RECORD_POINTS * (records - 2) - held;
+    let left = if long { rng.below(places as u64) } else { 1000 } as usize;
+    let count = match (long, full) {
+        (_, true) => places + 1 + rng.below(9) as usize,
+        (true, false) => rng.between(left as i64 + 1, places as i64) as usize,
+        (false, false) => rng.between(1, places as i64) as usize,
+    };
+    let mut store = vec![0xee; RECORD * records];
+    let (mode, role) = rng.mode_and_role();
+    store::make(&mut store, mode.number, role).expect("made");
+    let lost = u32::MAX - (held + left) as u32;
+    store::append_lost(&mut store, lost).expect("room");
+    store::append_points(&mut store, &vec![5; 2 * held]).expect("room");
+    (store, count)
+}
+
+/// Points to append with some faults, among 7, 8 and either one of 11 to 15 or
+/// any of 16 and 17.
+fn run_append(tally: &mut Tally, rng: &mut Rng, faults: &[u8]) {
+    let has = |number: u8| faults.contains(&number);
+    let (mut store, count) = near_end(rng, has(16), has(17));
+    let mode = rng.mode_and_role().0;
+    let mut list: Vec<Point> = (0..count).map(|_| points::in_range(rng, mode)).collect();
+    if has(8) {
+        list[rng.below(count as u64) as usize] = points::out_of_range(rng);
+    }
+    let mut numbers = points::flat(&list);
+    if has(7) {
+        numbers.push(rng.next_u64() as i16);
+    }
+    for fault in (11..=15).filter(|&fault| has(fault)) {
+        stores::damage(rng, &mut store, fault);
+        let none = Call::Points(Vec::new());
+        let (number, _) = run(tally, &store, &none);
+        tally.expect_lowest(&[fault], number);
+    }
+    let (number, _) = run(tally, &store, &Call::Points(numbers));
+    tally.expect_lowest(faults, number);
+}
+
+/// Each number of an append of points alone, and every two that can apply at
+/// once but for two of a store's own.
+fn run_appends(tally: &mut Tally, rng: &mut Rng) {
+    run_append(tally, rng, &[]);
+    for first in [7, 8, 11, 12, 13, 14, 15, 16, 17] {
+        run_append(tally, rng, &[first]);
+        let beside = match first {
+            7 | 8 => first + 1..=17,
+            16 => 17..=17,
+            _ => continue,
+        };
+        for second in beside.filter(|number| ![9, 10].contains(number)) {
+            run_append(tally, rng, &[second, first]);
+        }
+    }
 }
 
 /// Compares `count` stores; whether there was no difference.
@@ -177,7 +253,7 @@ pub fn compare(count: u64) -> bool {
             _ => run_damaged(&mut tally, &mut rng),
         }
         if k % 100 == 0 {
-            run_odd(&mut tally, &mut rng);
+            run_appends(&mut tally, &mut rng);
         }
     }
     println!("store: {count} stores, seed {SEED}");

@@ -1,20 +1,9 @@
 //! Counts of a comparison: calls by their number, and differences.
 
-use outside::rng::Rng;
-
 /// The highest refusal number and 0, an accepted call.
 const NUMBERS: usize = 18;
 /// Differences that are printed in full.
 const SHOWN: u64 = 5;
-
-/// One of some faults, or two that differ, in either order.
-pub fn one_or_two<T: Copy>(rng: &mut Rng, all: &[T]) -> Vec<T> {
-    let first = rng.below(all.len() as u64) as usize;
-    let further = 1 + rng.below(all.len() as u64 - 1) as usize;
-    let second = (first + further) % all.len();
-    let both = [all[first], all[second]];
-    both[..1 + rng.below(2) as usize].to_vec()
-}
 
 #[derive(Default)]
 pub struct Tally {
@@ -29,11 +18,12 @@ impl Tally {
         self.counts[usize::from(number)] += 1;
     }
 
-    /// The lowest number of a call's faults is the one that comes.
+    /// The lowest number of a call's faults is the one that comes, 0 without
+    /// any.
     pub fn expect_lowest(&mut self, faults: &[u8], number: u8) {
         self.pairs += u64::from(faults.len() > 1);
-        let lowest = faults.iter().min().copied();
-        self.check(lowest == Some(number), || {
+        let lowest = faults.iter().min().copied().unwrap_or(0);
+        self.check(lowest == number, || {
             format!("{number} for the faults {faults:?}")
         });
     }

@@ -1,34 +1,33 @@
-//! Compares the proved library with the outside implementation: receiver,
-//! blocks, store, sender, listing, or all of them where none is named.
+//! Compares the proved library with the outside implementation: line, receiver,
+//! bulk, store, sender, listing, or all of them where none is named.
 
 use std::process::ExitCode;
 
-use compare::{blocks, listing, receiving, sending, storing};
+use compare::{bulk, line, listing, receiving, sending, storing};
 
-const EVENTS: u64 = 1_200_000;
-const STORES: u64 = 120_000;
-const BLOCKS: u64 = 100_000;
-const LISTINGS: u64 = 20_000;
-const SENDING_CALLS: u64 = 200_000;
+/// What a name compares; whether there was no difference.
+type Part = (&'static str, fn() -> bool);
+
+const PARTS: [Part; 6] = [
+    ("line", line::compare),
+    ("receiver", || receiving::compare(1_200_000)),
+    ("bulk", || bulk::compare(100_000)),
+    ("store", || storing::compare(120_000)),
+    ("sender", || sending::compare(200_000)),
+    ("listing", || listing::compare(20_000)),
+];
 
 fn main() -> ExitCode {
     let names: Vec<String> = std::env::args().skip(1).collect();
-    let asked = |name: &str| names.is_empty() || names.iter().any(|given| given == name);
+    let known = |name: &String| PARTS.iter().any(|(part, _)| part == name);
+    if let Some(name) = names.iter().find(|name| !known(name)) {
+        eprintln!("compare: no part named {name}");
+        return ExitCode::from(2);
+    }
+    let asked = |part: &str| names.is_empty() || names.iter().any(|name| name == part);
     let mut same = true;
-    if asked("receiver") {
-        same &= receiving::compare(EVENTS);
-    }
-    if asked("blocks") {
-        same &= blocks::compare(BLOCKS);
-    }
-    if asked("store") {
-        same &= storing::compare(STORES);
-    }
-    if asked("sender") {
-        same &= sending::compare(SENDING_CALLS);
-    }
-    if asked("listing") {
-        same &= listing::compare(LISTINGS);
+    for (_, compare) in PARTS.iter().filter(|(part, _)| asked(part)) {
+        same &= compare();
     }
     if same {
         ExitCode::SUCCESS

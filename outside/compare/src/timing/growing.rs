@@ -3,13 +3,14 @@
 
 use outside::store::{FEWEST_RECORDS, MOST_RECORDS};
 
+use super::input;
 use super::measure::{measure, Work};
 use super::receiving::Blocks;
 use super::sending::{self, Data};
 use super::storing::{self, Filled};
 use super::table::{with_thousands, Table};
-use super::{input, Signal};
 use crate::points;
+use crate::signal::Signal;
 
 /// The most points of a block.
 const MOST_POINTS: usize = 10_000_000;

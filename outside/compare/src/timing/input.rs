@@ -24,8 +24,7 @@ pub fn random(mode: &Mode, count: usize) -> Vec<Point> {
 pub fn noisy(mode: &Mode, count: usize) -> Vec<Point> {
     let mut rng = Rng::new(u64::from(mode.number));
     let mut one = |_| {
-        let state = mode.states[rng.below(mode.states.len() as u64) as usize];
-        let sent = point::sent(mode, state);
+        let sent = point::sent(mode, rng.pick(mode.states));
         let mut moved = |x: i16| x + rng.between(-NOISE, NOISE) as i16;
         Point {
             re: moved(sent.re),

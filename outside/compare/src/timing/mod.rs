@@ -10,41 +10,10 @@ mod receiving;
 mod sending;
 mod storing;
 
-use outside::mode::{Mode, MODES};
-use outside::receiver::{self, Receiver};
-
 use measure::{measure, Work};
 use table::Table;
 
-/// A mode with one of its roles.
-#[derive(Clone, Copy)]
-struct Signal {
-    mode: &'static Mode,
-    role: u8,
-}
-
-impl Signal {
-    /// Every mode with each of its roles.
-    fn all() -> Vec<Signal> {
-        let of = |mode: &'static Mode| (0..mode.near_taps.len()).map(move |role| (mode, role));
-        let pairs = MODES.iter().flat_map(of);
-        pairs
-            .map(|(mode, role)| Signal {
-                mode,
-                role: role as u8,
-            })
-            .collect()
-    }
-
-    /// Every mode with role 0.
-    fn with_role_0() -> impl Iterator<Item = Signal> {
-        Signal::all().into_iter().filter(|signal| signal.role == 0)
-    }
-
-    fn receiver(self) -> Receiver {
-        receiver::fresh(self.mode.number, self.role).expect("a mode and its role")
-    }
-}
+use crate::signal::Signal;
 
 /// A row of the table of calls: its name, what times it, and whether it is
 /// timed with each role; a store's other rows do not depend on the role.
@@ -91,8 +60,7 @@ const ROWS: [Row; 14] = [
 pub fn once(word: &str) {
     for (name, row, each_role) in ROWS {
         if name.contains(word) {
-            let signals = Signal::all().into_iter();
-            let timed = signals.filter(|signal| each_role || signal.role == 0);
+            let timed = Signal::all().filter(|signal| each_role || signal.role == 0);
             timed.for_each(|signal| row(name, signal));
         }
     }

@@ -8,8 +8,9 @@ use outside::refusal::Refusal;
 use outside::tuned;
 
 use super::measure::{Side, Work};
-use super::{call_row, input, Signal};
+use super::{call_row, input};
 use crate::layout::{self, ANSWER, STATE};
+use crate::signal::Signal;
 use crate::{ours, points};
 
 const POINTS: usize = 40_000;
@@ -19,6 +20,118 @@ const BLOCK: usize = 4_000;
 const BETWEEN_GAPS: usize = 256;
 /// The length of such a gap in unit intervals.
 const GAP: u32 = 3;
+
+/// A receiver of one of the implementations.
+trait Receives {
+    fn fresh(signal: Signal) -> Self;
+    /// Takes a point; the bytes of the answer are kept if so.
+    fn point<const KEPT: bool>(&mut self, point: Point, kept: &mut Vec<u8>);
+    fn gap(&mut self);
+    fn state(&self) -> [u8; STATE];
+}
+
+/// The proved library, with the bytes that it is lent.
+struct Proved {
+    state: [u8; STATE],
+    answer: [u8; ANSWER],
+}
+
+impl Receives for Proved {
+    fn fresh(signal: Signal) -> Proved {
+        Proved {
+            state: layout::receiver_bytes(&signal.receiver()),
+            answer: [0; ANSWER],
+        }
+    }
+
+    #[inline(always)]
+    fn point<const KEPT: bool>(&mut self, point: Point, kept: &mut Vec<u8>) {
+        let number = ours::receive_point(&mut self.state, point.re, point.im, &mut self.answer);
+        black_box((number, &self.answer));
+        if KEPT {
+            kept.extend(self.answer);
+        }
+    }
+
+    fn gap(&mut self) {
+        black_box(ours::receive_gap(&mut self.state, GAP, &mut self.answer));
+    }
+
+    fn state(&self) -> [u8; STATE] {
+        self.state
+    }
+}
+
+/// The plain implementation on its own state.
+struct Plain {
+    width: u32,
+    state: Receiver,
+}
+
+impl Receives for Plain {
+    fn fresh(signal: Signal) -> Plain {
+        Plain {
+            width: signal.mode.width,
+            state: signal.receiver(),
+        }
+    }
+
+    #[inline(always)]
+    fn point<const KEPT: bool>(&mut self, point: Point, kept: &mut Vec<u8>) {
+        let told = receiver::receive_point(self.state, point.re, point.im);
+        let (answer, next) = told.expect("taken");
+        black_box(answer);
+        self.state = next;
+        if KEPT {
+            kept.extend(layout::answer_bytes(self.width, &answer));
+        }
+    }
+
+    fn gap(&mut self) {
+        let told = receiver::receive_gap(self.state, GAP);
+        self.state = told.expect("taken").1;
+    }
+
+    fn state(&self) -> [u8; STATE] {
+        layout::receiver_bytes(&self.state)
+    }
+}
+
+/// The plain implementation over the same 16 and 8 bytes as the proved one.
+struct InBytes {
+    width: u32,
+    state: [u8; STATE],
+}
+
+impl Receives for InBytes {
+    fn fresh(signal: Signal) -> InBytes {
+        InBytes {
+            width: signal.mode.width,
+            state: layout::receiver_bytes(&signal.receiver()),
+        }
+    }
+
+    #[inline(always)]
+    fn point<const KEPT: bool>(&mut self, point: Point, kept: &mut Vec<u8>) {
+        let before = layout::receiver_of(&self.state);
+        let told = receiver::receive_point(before, point.re, point.im);
+        let (answer, next) = told.expect("taken");
+        let answer = black_box(layout::answer_bytes(self.width, &answer));
+        self.state = black_box(layout::receiver_bytes(&next));
+        if KEPT {
+            kept.extend(answer);
+        }
+    }
+
+    fn gap(&mut self) {
+        let told = receiver::receive_gap(layout::receiver_of(&self.state), GAP);
+        self.state = layout::receiver_bytes(&told.expect("taken").1);
+    }
+
+    fn state(&self) -> [u8; STATE] {
+        self.state
+    }
+}
 
 /// A list of single calls: points, with gaps between if so.
 struct Calls {
@@ -34,80 +147,34 @@ impl Calls {
         self.points.chunks(size)
     }
 
-    /// The proved library.
-    fn proved<const KEPT: bool>(&self, kept: &mut Vec<u8>) {
-        let mut state = layout::receiver_bytes(&self.signal.receiver());
-        let mut answer = [0; ANSWER];
+    fn run<R: Receives, const KEPT: bool>(&self, kept: &mut Vec<u8>) {
+        let mut receiver = R::fresh(self.signal);
         for stretch in self.stretches() {
-            for point in stretch {
-                let number = ours::receive_point(&mut state, point.re, point.im, &mut answer);
-                black_box((number, &answer));
-                if KEPT {
-                    kept.extend(answer);
-                }
+            for &point in stretch {
+                receiver.point::<KEPT>(point, kept);
             }
             if self.gaps {
-                black_box(ours::receive_gap(&mut state, GAP, &mut answer));
+                receiver.gap();
             }
         }
-        kept.extend(state);
+        kept.extend(receiver.state());
     }
 
-    /// The plain implementation on its own state.
-    fn plain<const KEPT: bool>(&self, kept: &mut Vec<u8>) {
-        let mut state = self.signal.receiver();
-        for stretch in self.stretches() {
-            for point in stretch {
-                if let Ok((answer, next)) = receiver::receive_point(state, point.re, point.im) {
-                    black_box(answer);
-                    state = next;
-                    if KEPT {
-                        kept.extend(layout::answer_bytes(self.signal.mode.width, &answer));
-                    }
-                }
-            }
-            if self.gaps {
-                state = receiver::receive_gap(state, GAP).expect("taken").1;
-            }
-        }
-        kept.extend(layout::receiver_bytes(&state));
-    }
-
-    /// The plain implementation over the same 16 and 8 bytes as the proved one.
-    fn plain_in_bytes<const KEPT: bool>(&self, kept: &mut Vec<u8>) {
-        let mut state: [u8; STATE] = layout::receiver_bytes(&self.signal.receiver());
-        for point in &self.points {
-            let before = layout::receiver_of(&state);
-            if let Ok((answer, next)) = receiver::receive_point(before, point.re, point.im) {
-                let answer = black_box(layout::answer_bytes(self.signal.mode.width, &answer));
-                state = black_box(layout::receiver_bytes(&next));
-                if KEPT {
-                    kept.extend(answer);
-                }
-            }
-        }
-        kept.extend(state);
-    }
-
-    fn proved_side(&self) -> Side<'_> {
+    fn side<R: Receives>(&self) -> Side<'_> {
         Box::new(|kept| match kept {
-            Some(kept) => self.proved::<true>(kept),
-            None => self.proved::<false>(&mut Vec::new()),
+            Some(kept) => self.run::<R, true>(kept),
+            None => self.run::<R, false>(&mut Vec::new()),
         })
     }
 
-    fn plain_side(&self) -> Side<'_> {
-        Box::new(|kept| match kept {
-            Some(kept) => self.plain::<true>(kept),
-            None => self.plain::<false>(&mut Vec::new()),
-        })
-    }
-
-    fn plain_in_bytes_side(&self) -> Side<'_> {
-        Box::new(|kept| match kept {
-            Some(kept) => self.plain_in_bytes::<true>(kept),
-            None => self.plain_in_bytes::<false>(&mut Vec::new()),
-        })
+    /// Two receivers over the same calls.
+    fn row<One: Receives, Other: Receives>(&self, name: &str) {
+        let work = Work {
+            proved: self.side::<One>(),
+            plain: Some(self.side::<Other>()),
+            tuned: None,
+        };
+        call_row(name, self.signal, POINTS, work);
     }
 }
 
@@ -119,34 +186,17 @@ fn random_calls(signal: Signal) -> Calls {
     }
 }
 
-fn single_row(name: &str, signal: Signal, proved: Side, plain: Side) {
-    let work = Work {
-        proved,
-        plain: Some(plain),
-        tuned: None,
-    };
-    call_row(name, signal, POINTS, work);
-}
-
 /// The machine's noise: the same work on both sides.
 pub fn noise(name: &str, signal: Signal) {
-    let calls = random_calls(signal);
-    single_row(name, signal, calls.plain_side(), calls.plain_side());
+    random_calls(signal).row::<Plain, Plain>(name);
 }
 
 pub fn single(name: &str, signal: Signal) {
-    let calls = random_calls(signal);
-    single_row(name, signal, calls.proved_side(), calls.plain_side());
+    random_calls(signal).row::<Proved, Plain>(name);
 }
 
 pub fn single_in_bytes(name: &str, signal: Signal) {
-    let calls = random_calls(signal);
-    single_row(
-        name,
-        signal,
-        calls.proved_side(),
-        calls.plain_in_bytes_side(),
-    );
+    random_calls(signal).row::<Proved, InBytes>(name);
 }
 
 pub fn single_with_gaps(name: &str, signal: Signal) {
@@ -155,7 +205,7 @@ pub fn single_with_gaps(name: &str, signal: Signal) {
         points: input::with_origins(signal.mode, POINTS),
         gaps: true,
     };
-    single_row(name, signal, calls.proved_side(), calls.plain_side());
+    calls.row::<Proved, Plain>(name);
 }
 
 /// A list of blocks, with gaps between if so.
@@ -187,40 +237,38 @@ impl<'a> Blocks<'a> {
         std::iter::once(first).chain(rest.chunks(2 * self.size.max(1)))
     }
 
-    fn proved_side(&self) -> Side<'_> {
+    /// Blocks one after the other, each received by a call on the receiver.
+    fn side<'b, R: Receives + 'b>(
+        &'b self,
+        receive: impl Fn(&mut R, &[i16], &mut [u8], &mut [u8]) + 'b,
+    ) -> Side<'b> {
         let (mut line, mut plain) = (vec![0; self.size], vec![0; self.size]);
         Box::new(move |mut kept| {
-            let mut state = layout::receiver_bytes(&self.signal.receiver());
+            let mut receiver = R::fresh(self.signal);
             for block in self.blocks() {
-                let number = ours::receive_points(&mut state, block, &mut line, &mut plain);
-                black_box((number, &line, &plain));
+                receive(&mut receiver, block, &mut line, &mut plain);
+                black_box((&line, &plain));
                 if self.gaps {
-                    black_box(ours::receive_gap(&mut state, GAP, &mut [0; ANSWER]));
+                    receiver.gap();
                 }
                 if let Some(kept) = &mut kept {
-                    kept.extend(line.iter().chain(&plain).chain(&state));
+                    kept.extend(line.iter().chain(&plain).chain(&receiver.state()));
                 }
             }
         })
     }
 
+    fn proved_side(&self) -> Side<'_> {
+        self.side(|proved: &mut Proved, block, line, plain| {
+            black_box(ours::receive_points(&mut proved.state, block, line, plain));
+        })
+    }
+
     /// The plain implementation or the tuned one.
-    fn side(&self, receive_points: ReceiveBlock) -> Side<'_> {
-        let (mut line, mut plain) = (vec![0; self.size], vec![0; self.size]);
-        Box::new(move |mut kept| {
-            let mut state = self.signal.receiver();
-            for block in self.blocks() {
-                let told = receive_points(state, block, &mut line, &mut plain);
-                state = black_box(told).expect("taken");
-                black_box((&line, &plain));
-                if self.gaps {
-                    state = receiver::receive_gap(state, GAP).expect("taken").1;
-                }
-                if let Some(kept) = &mut kept {
-                    let state = layout::receiver_bytes(&state);
-                    kept.extend(line.iter().chain(&plain).chain(&state));
-                }
-            }
+    fn rust_side(&self, receive_points: ReceiveBlock) -> Side<'_> {
+        self.side(move |rust: &mut Plain, block, line, plain| {
+            let told = receive_points(rust.state, block, line, plain);
+            rust.state = black_box(told).expect("taken");
         })
     }
 
@@ -232,8 +280,8 @@ impl<'a> Blocks<'a> {
     fn against(&self, tuned: ReceiveBlock) -> Work<'_> {
         Work {
             proved: self.proved_side(),
-            plain: Some(self.side(receiver::receive_points)),
-            tuned: Some(self.side(tuned)),
+            plain: Some(self.rust_side(receiver::receive_points)),
+            tuned: Some(self.rust_side(tuned)),
         }
     }
 }

@@ -5,30 +5,21 @@ use std::hint::black_box;
 use outside::refusal::Refusal;
 use outside::rng::Rng;
 use outside::sender::{self, Sender};
-use outside::training::Training;
 use outside::tuned;
 
+use super::call_row;
 use super::measure::{Side, Work};
-use super::{call_row, Signal};
 use crate::layout::{self, STATE};
 use crate::ours;
+use crate::sending::{intervals, lengths};
+use crate::signal::Signal;
 
 /// The points of one call of send.
 const POINTS: usize = 20_000;
 
-/// The shortest and the longest training of a mode.
+/// The shortest training of a mode.
 pub fn shortest(signal: Signal) -> u32 {
-    [0, 1280][usize::from(signal.mode.number > 2)]
-}
-
-fn longest(signal: Signal) -> u32 {
-    [1, 8192][usize::from(signal.mode.number > 2)]
-}
-
-/// The points of a training.
-fn intervals(signal: Signal, length: u32) -> usize {
-    let training = Training::of(signal.mode, length);
-    training.expect("a length of the mode").intervals()
+    lengths(signal.mode).0
 }
 
 /// Adds what a call wrote and the state after it.
@@ -42,7 +33,7 @@ fn keep(kept: Option<&mut Vec<u8>>, numbers: &[i16], state: &[u8; STATE]) {
 /// Opening with a training of some length.
 pub fn opening(signal: Signal, length: u32) -> Work<'static> {
     let (mode, role) = (signal.mode.number, signal.role);
-    let count = intervals(signal, length);
+    let count = intervals(signal.mode, length);
     let (mut out, mut right) = (vec![0; 2 * count], vec![0; 2 * count]);
     let proved: Side = Box::new(move |kept| {
         let mut state = [0; STATE];
@@ -61,8 +52,8 @@ pub fn opening(signal: Signal, length: u32) -> Work<'static> {
 }
 
 pub fn open(name: &str, signal: Signal) {
-    let length = longest(signal);
-    let count = intervals(signal, length);
+    let (_, length) = lengths(signal.mode);
+    let count = intervals(signal.mode, length);
     call_row(name, signal, count, opening(signal, length));
 }
 
@@ -79,7 +70,7 @@ pub struct Data {
 impl Data {
     pub fn of(signal: Signal, points: usize) -> Data {
         let length = shortest(signal);
-        let mut training = vec![0; 2 * intervals(signal, length)];
+        let mut training = vec![0; 2 * intervals(signal.mode, length)];
         let (mode, role) = (signal.mode.number, signal.role);
         let opened = sender::open(mode, role, length, &mut training, 0);
         Data {

@@ -3,12 +3,12 @@
 use std::hint::black_box;
 
 use outside::listing;
-use outside::point::Point;
 use outside::store::{self, FEWEST_RECORDS, RECORD, RECORD_POINTS};
 use outside::tuned;
 
 use super::measure::{Side, Work};
-use super::{call_row, input, Signal};
+use super::{call_row, input};
+use crate::signal::Signal;
 use crate::{ours, points};
 
 /// Points that fill a store of so many records.
@@ -19,21 +19,20 @@ fn capacity(records: usize) -> usize {
 /// Points for a store, and the store, with one place left in its last record.
 pub struct Filled {
     signal: Signal,
-    points: Vec<Point>,
+    /// The points' numbers, re and im in turn.
     numbers: Vec<i16>,
     store: Vec<u8>,
 }
 
 impl Filled {
     pub fn of(signal: Signal, records: usize) -> Filled {
-        let points = input::random(signal.mode, capacity(records));
+        let numbers = points::flat(&input::random(signal.mode, capacity(records)));
         let mut store = vec![0; RECORD * records];
         store::make(&mut store, signal.mode.number, signal.role).expect("made");
-        store::append_points(&mut store, &points[1..]).expect("room");
+        store::append_points(&mut store, &numbers[2..]).expect("room");
         Filled {
             signal,
-            numbers: points::flat(&points),
-            points,
+            numbers,
             store,
         }
     }
@@ -89,7 +88,7 @@ impl Filled {
             }),
             plain: Some(self.bulk_side(move |store| {
                 store::make(store, mode, role).expect("made");
-                store::append_points(store, &self.points).expect("room");
+                store::append_points(store, &self.numbers).expect("room");
             })),
             tuned: Some(self.bulk_side(move |store| {
                 store::make(store, mode, role).expect("made");
@@ -99,7 +98,7 @@ impl Filled {
     }
 
     pub fn reading(&self) -> Work<'_> {
-        let room = 3 * self.points.len();
+        let room = 3 * (self.numbers.len() / 2);
         let (mut out, mut right) = (vec![0; room], vec![0; room]);
         Work {
             proved: Box::new(move |kept| {
