@@ -6,7 +6,7 @@
  * read, but must not be null.
  *
  * Each function returns 0, or the number of the refusal. A refusal leaves every lent byte and number as it was; of several
- * that apply, the lowest is given. The table over a function says what its numbers are about there; the numbers are
+ * that apply, the lowest is given. The table over each function has its numbers and what they are about there. All numbers:
  *
  *    1  mode not 1 to 4, a handed-in state's included
  *    2  role not one of the mode's, a state's included
@@ -126,8 +126,8 @@ uint8_t kerambiu_receive_points(uint8_t *state, size_t state_len, const int16_t 
  *    7        fewer bytes than a state has; fewer numbers from the offset on than two for each point, or an offset past their
  *             end
  */
-uint8_t kerambiu_open(uint8_t *state, size_t state_len, uint8_t mode, uint8_t role, uint32_t length, int16_t *out, size_t out_len,
-                      size_t offset);
+uint8_t kerambiu_open(uint8_t *state, size_t state_len, uint8_t mode, uint8_t role, uint32_t length, int16_t *out,
+                      size_t out_len, size_t offset);
 
 /*
  * Sends data bits, one in a byte, w to a point: writes the points, re and im in turn, into the lent numbers from the offset on,
