@@ -5,11 +5,11 @@ use native.Mathlib.Omega.{arith}
 use mathlib.Core.Bool.{Bool, cond}
 use lib.Dec.{eqb, eqb→eq}
 use lib.ListN.{getD}
-use Rattle.line.specs.Table.{entry, rowFrom, firstRow, below, every}
+use Rattle.line.specs.Table.{entry, rowFrom, firstRow}
 use Rattle.line.specs.Mode.{face, quadrant}
 use Rattle.coding.specs.Code.{changes4, changes8, changes16, coded, eighths, turnRow, group}
 use Rattle.line.proofs.ByMode.{mode-1, mode-2, mode-3, mode-4}
-use Rattle.line.proofs.TableLaws.{below-at, row-below}
+use Rattle.line.proofs.TableLaws.{below-at, pairs-below, row-below}
 
 module _ (m x g : ℕ) where
   pub coded-1 : (c : ℕ) → m ≤ 1 → c ≡ entry changes4 g → (x % 8 + 2 * c) % 8 ≡ coded m (face m x) g
@@ -74,7 +74,7 @@ unfolding entry rowFrom changes16 turnRow
 row16-law y z a b c h k p q r =
     found _ 3 (λ g. eqb (entry changes16 (4 * g + y)) z)
     (ap₂ (λ (i j : ℕ). i + j) (ap₂ (λ (i j : ℕ). i + j) p q) r
-    ∙ eqb→eq _ _ (below-at (λ v. sum y v) 4 (below-at (λ u. every (λ v. sum u v) (below 4)) 4 tt y h) z k))
+    ∙ eqb→eq _ _ (pairs-below sum 4 4 tt y z h k))
   where
     sum : ℕ → ℕ → Bool
     sum u v = eqb (if-row (getD changes16 (4 + u) 0) v 1 + if-row (getD changes16 (8 + u) 0) v 2 + if-row (getD changes16 (12 + u) 0) v 3) (turnRow u v)

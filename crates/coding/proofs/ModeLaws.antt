@@ -1,6 +1,6 @@
 -- The finite facts of the code, read off one computed test over modes, pairs of states and groups. Assumes nothing.
-use Prim.Native.Nat.{ℕ, _-_, _^_, _<_}
-use mathlib.Core.Path.{_≡_, sym}
+use Prim.Native.Nat.{ℕ, _+_, _*_, _-_, _^_}
+use mathlib.Core.Path.{sym}
 use mathlib.Core.Bool.{Bool, true, _&&_}
 use mathlib.Core.List.{List, [], _∷_}
 use lib.Dec.{T, ltb, eqb, eqb→eq, ltb→lt}
@@ -8,7 +8,8 @@ use lib.ListN.{getD}
 use Rattle.line.specs.Table.{entry, rowFrom, below, every}
 use Rattle.line.specs.Mode.{isMode, width, step, states, isState, quadrant, nextQuadrant, turn, turns, wholeSteps, face}
 use Rattle.coding.specs.Code.{changes4, changes8, changes16, coded, eighths, turnRow, group}
-use Rattle.line.proofs.TableLaws.{and-left, and-right, below-at, all, test-at}
+use Rattle.coding.specs.Facts.{quarterTurns, turnsOf, TableTurns, EachPair, EachGroup}
+use Rattle.line.proofs.TableLaws.{and-left, and-right, below-at, pairs-below, all, test-at}
 use Rattle.line.proofs.StateLaws.{mode-cases, state-at}
 
 -- the steps from the face of x to that of y: the last row that passes is 0
@@ -35,32 +36,25 @@ tests : (m : ℕ) → T (isMode m) → T (every (λ x. pairsTest m x && groupsTe
 unfolding pairsTest groupsTest groupTests pairTests stepsTo rowFrom entry width states isState quadrant nextQuadrant step turn wholeSteps face changes4 changes8 changes16 coded eighths turnRow group
 tests = mode-cases (λ m. T (every (λ x. pairsTest m x && groupsTest m x) (states m))) tt tt tt tt
 
--- of two states: the code is unaltered by turns, and undone by its inverse; some turn carries one face to the other
-pub record OfPair (m x y : ℕ) : Type 0 where
-  pub same : group m (face m (turn m x)) (turn m y) ≡ group m (face m x) y
-  pub back : coded m (face m x) (group m (face m x) y) ≡ y
-  pub fits : group m (face m x) y < 2 ^ width m
-  pub meets : (k : ℕ) × (face m y ≡ face m (turns m k x))
+both : (m x : ℕ) → T (isMode m) → T (isState m x) → T (pairsTest m x && groupsTest m x)
+both m x hm hx = state-at m (λ z. pairsTest m z && groupsTest m z) (tests m hm) x hx
 
--- of a state and a group: the code gives a state, and its inverse the group back
-pub record OfGroup (m x g : ℕ) : Type 0 where
-  pub lands : T (isState m (coded m (face m x) g))
-  pub read : group m (face m x) (coded m (face m x) g) ≡ g
+pub of-pair : EachPair
+unfolding pairsTest pairTests
+of-pair m x hm hx y hy =
+    let t : T (all (pairTests m x y)) = state-at m (λ z. all (pairTests m x z)) (and-left (pairsTest m x) (groupsTest m x) (both m x hm hx)) y hy in
+    let at : (i : ℕ) → T (getD (pairTests m x y) i true) = λ i. test-at (pairTests m x y) i t in
+    record { same = eqb→eq _ _ (at 0); back = eqb→eq _ _ (at 1); fits = ltb→lt _ _ (at 2); meets = (stepsTo m x y, sym (eqb→eq _ _ (at 3))) }
 
-module _ (m x : ℕ) (hm : T (isMode m)) (hx : T (isState m x)) where
-  both : T (pairsTest m x && groupsTest m x)
-  both = state-at m (λ z. pairsTest m z && groupsTest m z) (tests m hm) x hx
+pub of-group : EachGroup
+unfolding groupsTest groupTests
+of-group m x hm hx g hg =
+    let t : T (all (groupTests m x g)) = below-at (λ z. all (groupTests m x z)) (2 ^ width m) (and-right (pairsTest m x) (groupsTest m x) (both m x hm hx)) g hg in
+    let at : (i : ℕ) → T (getD (groupTests m x g) i true) = λ i. test-at (groupTests m x g) i t in
+    record { lands = at 0; read = eqb→eq _ _ (at 1) }
 
-  pub of-pair : (y : ℕ) → T (isState m y) → OfPair m x y
-  unfolding pairsTest pairTests
-  of-pair y hy =
-      let t : T (all (pairTests m x y)) = state-at m (λ z. all (pairTests m x z)) (and-left (pairsTest m x) (groupsTest m x) both) y hy in
-      let at : (i : ℕ) → T (getD (pairTests m x y) i true) = λ i. test-at (pairTests m x y) i t in
-      record { same = eqb→eq _ _ (at 0); back = eqb→eq _ _ (at 1); fits = ltb→lt _ _ (at 2); meets = (stepsTo m x y, sym (eqb→eq _ _ (at 3))) }
-
-  pub of-group : (g : ℕ) → g < 2 ^ width m → OfGroup m x g
-  unfolding groupsTest groupTests
-  of-group g hg =
-      let t : T (all (groupTests m x g)) = below-at (λ z. all (groupTests m x z)) (2 ^ width m) (and-right (pairsTest m x) (groupsTest m x) both) g hg in
-      let at : (i : ℕ) → T (getD (groupTests m x g) i true) = λ i. test-at (groupTests m x g) i t in
-      record { lands = at 0; read = eqb→eq _ _ (at 1) }
+-- the rows of 001's table 1
+pub table-turns : TableTurns
+unfolding changes16 nextQuadrant turnsOf
+table-turns q y hq hy =
+    eqb→eq _ _ (pairs-below (λ i j. eqb (getD changes16 (4 * i + j) 0) (quarterTurns (getD turnsOf i 0) j)) 4 4 tt q y hq hy)

@@ -3,10 +3,8 @@ use mathlib.Core.Path.{_≡_, refl, sym, ap, ap₂, _∙_}
 use mathlib.Core.List.{List}
 use Prim.Native.Nat.{ℕ, zero, suc, _+_, _*_, _-_, _/_, _%_, _<_, _≤_}
 use native.Mathlib.Omega.{arith}
-use native.Mathlib.Decide.{decLt}
 use lib.Dec.{eqb}
-use lib.ListN.{length, getD, set, replicate}
-use lib.Seq.{getD-set-same, getD-set-other}
+use lib.ListN.{getD}
 use Rattle.line.specs.Table.{entry, firstRow}
 use Rattle.line.specs.Mode.{face, quadrant}
 use Rattle.line.proofs.ByMode.{mode-4, by-all}
@@ -68,22 +66,6 @@ row-and-low m row s h = sym (mode-4 _ _ _ _ m (omega arith) (λ e. omega arith) 
 pub index-small : (m x s : ℕ) → rowIndex m x s < 16
 unfolding rowIndex eighths quadrant
 index-small m x s = by-all (λ (i : ℕ). i < 16) _ _ _ _ (omega arith) (omega arith) (omega arith) (omega arith) m
-
--- the first row in every place, and one more
-pub first-filled : (m v : ℕ) → v ≡ rowAt m 0 → (j : ℕ) → j < 1 → getD (replicate 16 v) j 0 ≡ rowAt m j
-first-filled m v e j h =
-    let z : j ≡ 0 = omega arith in
-    ap (λ (n : ℕ). getD (replicate 16 v) n 0) z ∙ e ∙ ap (rowAt m) (sym z)
-
-pub filled : (m i v : ℕ) (rows : List ℕ) → length rows ≡ 16 → i < 16 → ((j : ℕ) → j < i → getD rows j 0 ≡ rowAt m j) → v ≡ rowAt m i
-    → (j : ℕ) → j < i + 1 → getD (set rows i v) j 0 ≡ rowAt m j
-filled m i v rows l h f e j k = go (decLt j i)
-  where
-    go : Dec (j < i) → getD (set rows i v) j 0 ≡ rowAt m j
-    go (yes p) = getD-set-other rows i j v 0 (λ q. omega arith) ∙ f j p
-    go (no p) =
-        let q : j ≡ i = omega (arith, p) in
-        ap (λ (n : ℕ). getD (set rows i v) n 0) q ∙ getD-set-same rows i v 0 (omega arith) ∙ e ∙ ap (rowAt m) (sym q)
 
 -- the group of a looked-up row
 pub looked-up : (m x s : ℕ) (rows : List ℕ) → Rows m rows → withRow m (getD rows (rowIndex m x s) 0) s ≡ group m (face m x) s

@@ -1,11 +1,9 @@
 -- How the code finds a group: by its row, of which a mode has 16, so that a caller that looks up many finds them once.
 -- Nobody need believe this file: the laws `group-by-row` and `looked-up` of proofs/RowLaws say that it is `group`.
-use Prim.Native.Nat.{ℕ, _+_, _*_, _/_, _%_, _<_}
-use mathlib.Core.Path.{_≡_}
+use Prim.Native.Nat.{ℕ, _+_, _*_, _/_, _%_}
 use mathlib.Core.List.{List}
 use lib.Dec.{eqb}
-use lib.ListN.{length, getD}
-use Rattle.line.specs.Table.{entry, firstRow}
+use Rattle.line.specs.Table.{entry, firstRow, Tabled}
 use Rattle.line.specs.Mode.{byMode, quadrant}
 use Rattle.coding.specs.Code.{changes4, changes8, eighths, turnRow}
 
@@ -24,6 +22,5 @@ unfoldable pub withRow : ℕ → ℕ → ℕ → ℕ
 withRow m row s = byMode m row row row (row % 16 + s % 4)
 
 -- the rows of a mode, by their indexes
-pub record Rows (m : ℕ) (rows : List ℕ) : Type 0 where
-  pub size : length rows ≡ 16
-  pub at : (i : ℕ) → i < 16 → getD rows i 0 ≡ rowAt m i
+abbrev pub Rows : ℕ → List ℕ → Type 0
+Rows m rows = Tabled 16 (rowAt m) 0 rows

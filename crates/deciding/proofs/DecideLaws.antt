@@ -15,44 +15,39 @@ use Rattle.line.specs.Table.{every}
 use Rattle.line.specs.Mode.{isMode, states, isState, quadrant, nextQuadrant, step, turn, turns, quarterSteps}
 use Rattle.line.specs.Point.{at, isOrigin, turned, turnedBy, sent27, levels32, sent32, sentPoint}
 use Rattle.deciding.specs.Decide.{square, inFirst, sector, outer, first, turnedAnswer, quarters, decideBy, decide}
+use Rattle.deciding.specs.Facts.{InOneRegion, DecidedState, DecidedSent, TurnDecides, numberOf, statesOf, lostOf, Told}
 use Rattle.line.proofs.TableLaws.{below-at}
 use Rattle.line.proofs.StateLaws.{mode-cases, state-at, of-state, turns-state, turns-add, four-quarters}
-use Rattle.deciding.proofs.RegionLaws.{Turn, before, turn-four, origin-turned, turn-before, turn-by, turn-decide, off-turned, base, turn-1, turn-1-past, turn-2, turn-3, turn-3-past, turn-4, turn-4-axis}
+use Rattle.deciding.proofs.RingLaws.{by-ring}
+use Rattle.deciding.proofs.RegionLaws.{Turn, before, turn-four, origin-turned, turn-before, turn-by, turn-decide, off-turned, base, Sloped, sloped-1, sloped-3, turn-within, turn-past, turn-2, turn-4, turn-4-axis}
 
 -- THE REGIONS
 
 -- one turn of the point lies in the first region, and no other
-pub record InOne (m : ℕ) (z : Point) : Type 0 where
-  pub by : ℕ
-  pub small : by < 4
-  pub turn : Turn m z by
+record InOne (m : ℕ) (z : Point) : Type 0 where
+  by : ℕ
+  small : by < 4
+  turn : Turn m z by
 
 base-in-one : (m a b : ℕ) → InOne m (base m a b)
-base-in-one m a b = by-mode m
+base-in-one m a b = by-mode (decLe m 1) (decLe m 2) (decLe m 3)
   where
     one : (j : ℕ) → j < 4 → Turn m (base m a b) j → InOne m (base m a b)
     one j h t = record { by = j; small = h; turn = t }
 
-    mode-1 : m ≤ 1 → Dec (b ≤ suc a) → InOne m (base m a b)
-    mode-1 h (yes p) = one 0 (omega arith) (turn-1 m a b h p)
-    mode-1 h (no p) = one 3 (omega arith) (turn-1-past m a b h (omega (arith, p)))
-
-    mode-3 : m ≡ 3 → Dec (b ≤ 2 * suc a) → InOne m (base m a b)
-    mode-3 h (yes p) = one 0 (omega arith) (turn-3 m a b h p)
-    mode-3 h (no p) = one 3 (omega arith) (turn-3-past m a b h (omega (arith, p)))
+    about : (n : ℕ) → Sloped m n → Dec (b ≤ n * suc a) → InOne m (base m a b)
+    about n e (yes p) = one 0 (omega arith) (turn-within m n a b e p)
+    about n e (no p) = one 3 (omega arith) (turn-past m n a b e (omega (arith, p)))
 
     mode-4 : 1 < m → (m ≡ 2 → ⊥) → (m ≡ 3 → ⊥) → Dec (b ≤ 0) → InOne m (base m a b)
     mode-4 h f g (yes p) = one 1 (omega arith) (turn-4-axis m a b h f g (omega arith))
     mode-4 h f g (no p) = one 0 (omega arith) (turn-4 m a b h f g (omega (arith, p)))
 
-    by-mode : (n : ℕ) → InOne m (base m a b)
-    by-mode n = go (decLe m 1) (decLe m 2) (decLe m 3)
-      where
-        go : Dec (m ≤ 1) → Dec (m ≤ 2) → Dec (m ≤ 3) → InOne m (base m a b)
-        go (yes p) q r = mode-1 p (decLe b (suc a))
-        go (no p) (yes q) r = one 0 (omega arith) (turn-2 m a b (omega (arith, p)))
-        go (no p) (no q) (yes r) = mode-3 (omega (arith, q)) (decLe b (2 * suc a))
-        go (no p) (no q) (no r) = mode-4 (omega (arith, r)) (λ e. omega (arith, r)) (λ e. omega (arith, r)) (decLe b 0)
+    by-mode : Dec (m ≤ 1) → Dec (m ≤ 2) → Dec (m ≤ 3) → InOne m (base m a b)
+    by-mode (yes p) q r = about 1 (sloped-1 m p) (decLe b (1 * suc a))
+    by-mode (no p) (yes q) r = one 0 (omega arith) (turn-2 m a b (omega (arith, p)))
+    by-mode (no p) (no q) (yes r) = about 2 (sloped-3 m (omega (arith, q))) (decLe b (2 * suc a))
+    by-mode (no p) (no q) (no r) = mode-4 (omega (arith, r)) (λ e. omega (arith, r)) (λ e. omega (arith, r)) (decLe b 0)
 
 turned-in-one : (m k a b : ℕ) → InOne m (turnedBy k (base m a b))
 turned-in-one m k a b =
@@ -70,8 +65,18 @@ in-one m (negsuc x) (negsuc y) o = turned-in-one m 2 x (suc y)
 in-one m (pos zero) (negsuc y) o = turned-in-one m 3 y 0
 in-one m (pos (suc x)) (negsuc y) o = turned-in-one m 3 y (suc x)
 
-pub in-one-region : (m : ℕ) (z : Point) → isOrigin z ≡ false → InOne m z
-in-one-region m z o = in-one m (z .re) (z .im) o
+region-of : (m : ℕ) (z : Point) → isOrigin z ≡ false → InOne m z
+region-of m z o = in-one m (z .re) (z .im) o
+
+pub in-one-region : InOneRegion
+in-one-region m z o = let i = region-of m z o in (i .by, i .small, at-each (i .turn))
+  where
+    at-each : {j : ℕ} → Turn m z j → (i : ℕ) → i < 4 → inFirst m (turnedBy i z) ≡ eqb i j
+    at-each t zero h = t .at-0
+    at-each t (suc zero) h = t .at-1
+    at-each t (suc (suc zero)) h = t .at-2
+    at-each t (suc (suc (suc zero))) h = t .at-3
+    at-each t (suc (suc (suc (suc i)))) h = absurd (omega arith)
 
 -- THE ANSWER IS A STATE
 
@@ -124,8 +129,7 @@ at-origin : (m : ℕ) (z : Point) → isOrigin z ≡ true → decide m z ≡ Ori
 unfolding decide
 at-origin m z e = ap (λ (b : Bool). cond b Origin (decideBy m (quarters m z) z)) e
 
--- a decided state is one of the mode
-pub decided-state : (m : ℕ) (z : Point) (s : ℕ) → T (isMode m) → decide m z ≡ State s → T (isState m s)
+pub decided-state : DecidedState
 decided-state m z s hm e = go (isOrigin z) refl
   where
     go : (b : Bool) → isOrigin z ≡ b → T (isState m s)
@@ -150,7 +154,7 @@ sent-tests : (m : ℕ) → T (isMode m) → T (every (λ x. is (decide m (sentPo
 unfolding states quadrant nextQuadrant step turn quarterSteps isOrigin sent27 levels32 sent32 sentPoint inFirst sector outer first turnedAnswer quarters decide
 sent-tests = mode-cases (λ m. T (every (λ x. is (decide m (sentPoint m x)) x) (states m))) tt tt tt tt
 
-pub decided-sent : (m x : ℕ) → T (isMode m) → T (isState m x) → decide m (sentPoint m x) ≡ State x
+pub decided-sent : DecidedSent
 decided-sent m x hm hx = is-state (decide m (sentPoint m x)) x (state-at m (λ z. is (decide m (sentPoint m z)) z) (sent-tests m hm) x hx)
 
 -- TURNS
@@ -181,7 +185,7 @@ next-answer m k d hm v h = go (decLe k 2)
 
 off-decides : (m : ℕ) (z : Point) → T (isMode m) → isOrigin z ≡ false → decide m (turned z) ≡ turnedAnswer m 1 (decide m z)
 off-decides m z hm o =
-    let i = in-one-region m z o in
+    let i = region-of m z o in
     let j : ℕ = i .by in
     let h : j < 4 = i .small in
     let k : (4 - before j) % 4 ≡ ((4 - j) % 4 + 1) % 4 = eqb→eq _ _ (below-at (λ n. eqb ((4 - before n) % 4) (((4 - n) % 4 + 1) % 4)) 4 tt j h) in
@@ -201,10 +205,21 @@ origin-decides : (m : ℕ) (z : Point) → isOrigin z ≡ true → decide m (tur
 unfolding turnedAnswer
 origin-decides m z e = at-origin m (turned z) (origin-turned (z .re) (z .im) ∙ e) ∙ ap (turnedAnswer m 1) (sym (at-origin m z e))
 
--- a point turned by 90° is decided as the answer turned by 90°
-pub turn-decides : (m : ℕ) (z : Point) → T (isMode m) → decide m (turned z) ≡ turnedAnswer m 1 (decide m z)
+pub turn-decides : TurnDecides
 turn-decides m z hm = go (isOrigin z) refl
   where
     go : (b : Bool) → isOrigin z ≡ b → decide m (turned z) ≡ turnedAnswer m 1 (decide m z)
     go true e = origin-decides m z e
     go false e = off-decides m z hm e
+
+-- WHAT IS TOLD
+
+lost-told : (m : ℕ) (p : Point) → lostOf (decide m p) ≡ cond (isOrigin p) 1 0
+lost-told m p = go (isOrigin p) refl
+  where
+    go : (b : Bool) → isOrigin p ≡ b → lostOf (decide m p) ≡ cond (isOrigin p) 1 0
+    go true o = ap lostOf (at-origin m p o) ∙ sym (ap (λ (b : Bool). cond b 1 0) o)
+    go false o = ap lostOf (sym (by-ring m (p .re) (p .im) o)) ∙ sym (ap (λ (b : Bool). cond b 1 0) o)
+
+pub told : (m : ℕ) (p : Point) (r : Decision) → r ≡ decide m p → (r ≡ decide m p) × Told m p r
+told m p r e = (e, record { number-is = ap numberOf e; state-is = ap statesOf e; lost-is = ap lostOf e ∙ lost-told m p })

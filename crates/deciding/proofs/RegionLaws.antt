@@ -1,19 +1,18 @@
 -- The regions of a mode: each point off the origin lies in exactly one of the first region's four turns, and its answer turns with it.
 -- Assumes nothing.
-use mathlib.Core.Path.{_≡_, refl, ap, ap₂, _∙_, subst}
+use mathlib.Core.Path.{_≡_, refl, sym, ap, ap₂, _∙_, subst}
 use mathlib.Core.Bool.{Bool, true, false, _&&_, cond, and-false}
 use Prim.Native.Nat.{ℕ, zero, suc, _+_, _*_, _-_, _%_, _<_, _≤_}
 use native.Mathlib.Omega.{arith}
 use borrow.Author.Tests.{le-leb, lt-leb}
-use lib.Dec.{T, eqb, leb, eqb→eq}
+use lib.Dec.{eqb, leb, eqb→eq}
 use lib.IntN.{ℤ, pos, negsuc, natAbs, negℤ-negℤ, subℕ, _+ℤ_}
 use Rattle.line.specs.declared.Point.{Point}
-use Rattle.line.specs.Table.{below, every}
 use Rattle.line.specs.Point.{at, isOrigin, turned, turnedBy}
 use Rattle.deciding.specs.Decide.{within45, inFirst, first, turnedAnswer, quarters, decide}
 use Rattle.line.proofs.ByMode.{mode-1, mode-2, mode-3, mode-4}
-use Rattle.line.proofs.TableLaws.{below-at}
-use Rattle.deciding.proofs.Differences.{pos-difference, negated-difference, sum-difference, less-difference, below-difference, triple-difference, within-difference}
+use Rattle.line.proofs.TableLaws.{below-at, pairs-below}
+use Rattle.deciding.proofs.Differences.{leb-same, pos-difference, negated-difference, sum-difference, less-difference, below-difference, triple-difference, within-difference}
 
 -- four turns of 90° are none
 pub turn-four : (z : Point) → turnedBy 4 z ≡ z
@@ -93,18 +92,14 @@ turn-by m (suc k) z j h t =
     subst (Turn m (turnedBy (suc k) z)) (let e : ((j + 3 * k) % 4 + 3) % 4 ≡ (j + 3 * suc k) % 4 = omega arith in e)
     (turn-before m (turnedBy k z) ((j + 3 * k) % 4) (omega arith) (turn-by m k z j h t))
 
--- a test of pairs below 4
-pub pairs-at : (f : ℕ → ℕ → Bool) → T (every (λ k. every (f k) (below 4)) (below 4)) → (k j : ℕ) → k < 4 → j < 4 → T (f k j)
-pairs-at f t k j h l = below-at (f k) 4 (below-at (λ i. every (f i) (below 4)) 4 t k h) j l
-
 -- the answer for k turns of such a point
 pub turned-decide : (m k : ℕ) (z : Point) (j : ℕ) → k < 4 → j < 4 → Turn m z j → isOrigin z ≡ false
     → decide m (turnedBy k z) ≡ turnedAnswer m ((k + 4 - j) % 4) (first m (turnedBy j z))
 turned-decide m k z j h l t o =
     let i : ℕ = (j + 3 * k) % 4 in
     let li : i < 4 = omega arith in
-    let q : (4 - i) % 4 ≡ (k + 4 - j) % 4 = eqb→eq _ _ (pairs-at (λ c d. eqb ((4 - (d + 3 * c) % 4) % 4) ((c + 4 - d) % 4)) tt k j h l) in
-    let w : (i + k) % 4 ≡ j = eqb→eq _ _ (pairs-at (λ c d. eqb (((d + 3 * c) % 4 + c) % 4) d) tt k j h l) in
+    let q : (4 - i) % 4 ≡ (k + 4 - j) % 4 = eqb→eq _ _ (pairs-below (λ c d. eqb ((4 - (d + 3 * c) % 4) % 4) ((c + 4 - d) % 4)) 4 4 tt k j h l) in
+    let w : (i + k) % 4 ≡ j = eqb→eq _ _ (pairs-below (λ c d. eqb (((d + 3 * c) % 4 + c) % 4) d) 4 4 tt k j h l) in
     turn-decide m (turnedBy k z) i li (turn-by m k z j l t) (off-turned k z o)
     ∙ ap₂ (λ (c : ℕ) (p : Point). turnedAnswer m c (first m p)) q
     (turn-add i k z ∙ turn-mod (i + k) z (omega arith) ∙ ap (λ (n : ℕ). turnedBy n z) w)
@@ -145,17 +140,6 @@ module _ (m : ℕ) (k : Region m) (z : Point) (a b c d : ℕ) (e : z ≡ at (sub
   not-r : k .s a b c d < k .r a b c d → inFirst m z ≡ false
   not-r f = ap (inFirst m) e ∙ k .are a b c d ∙ ap (λ (t : Bool). leb (k .p a b c d) (k .q a b c d) && t) (lt-leb _ _ f) ∙ and-false (leb (k .p a b c d) (k .q a b c d))
 
--- mode 1: about state 0
-abbrev region-1 : (m : ℕ) → m ≤ 1 → Region m
-region-1 m h =
-    record {
-      p = λ a b c d. suc (b + d);
-      q = λ a b c d. c + a;
-      r = λ a b c d. c + b;
-      s = λ a b c d. a + d;
-      are = unfold inFirst in (λ a b c d. mode-1 _ _ _ _ m h ∙ within-difference a b c d);
-    }
-
 -- mode 2: im ≥ 0 and re > 0
 abbrev region-2 : (m : ℕ) → m ≡ 2 → Region m
 region-2 m h =
@@ -165,21 +149,6 @@ region-2 m h =
       r = λ a b c d. suc (0 + b);
       s = λ a b c d. a + 0;
       are = unfold inFirst in (λ a b c d. mode-2 _ _ _ _ m h ∙ ap₂ _&&_ (less-difference 0 0 c d) (below-difference 0 0 a b));
-    }
-
--- mode 3: about C
-abbrev region-3 : (m : ℕ) → m ≡ 3 → Region m
-region-3 m h =
-    record {
-      p = λ a b c d. suc (3 * b + d + (3 * d + a));
-      q = λ a b c d. 3 * c + b + (3 * a + c);
-      r = λ a b c d. 3 * c + b + (3 * b + d);
-      s = λ a b c d. 3 * a + c + (3 * d + a);
-      are = unfold inFirst in (λ a b c d.
-          mode-3 _ _ _ _ m h
-          ∙ ap₂ within45 (ap (λ (x : ℤ). x +ℤ subℕ c d) (triple-difference a b) ∙ sum-difference (3 * a) (3 * b) c d)
-          (ap₂ _+ℤ_ (triple-difference c d) (negated-difference a b) ∙ sum-difference (3 * c) (3 * d) b a)
-          ∙ within-difference (3 * a + c) (3 * b + d) (3 * c + b) (3 * d + a));
     }
 
 -- mode 4: quadrant I
@@ -193,28 +162,58 @@ region-4 m h f g =
       are = unfold inFirst in (λ a b c d. mode-4 _ _ _ _ m h f g ∙ ap₂ _&&_ (less-difference 0 0 a b) (below-difference 0 0 c d));
     }
 
--- the turn that lies in the first region, by mode
+-- modes 1 and 3, about a state: up to n across for one along
+abbrev pub Sloped : ℕ → ℕ → Type 0
+Sloped m n = (a b c d : ℕ) → inFirst m (at (subℕ a b) (subℕ c d)) ≡ leb (suc (b + n * d)) (n * c + a) && leb (c + n * b) (n * a + d)
+
+pub sloped-1 : (m : ℕ) → m ≤ 1 → Sloped m 1
+unfolding inFirst
+sloped-1 m h a b c d =
+    mode-1 _ _ _ _ m h ∙ within-difference a b c d
+    ∙ ap₂ _&&_ (leb-same (suc (b + d)) (c + a) (suc (b + 1 * d)) (1 * c + a) (λ l. omega arith) (λ l. omega arith))
+    (leb-same (c + b) (a + d) (c + 1 * b) (1 * a + d) (λ l. omega arith) (λ l. omega arith))
+
+pub sloped-3 : (m : ℕ) → m ≡ 3 → Sloped m 2
+unfolding inFirst
+sloped-3 m h a b c d =
+    mode-3 _ _ _ _ m h
+    ∙ ap₂ within45 (ap (λ (x : ℤ). x +ℤ subℕ c d) (triple-difference a b) ∙ sum-difference (3 * a) (3 * b) c d)
+    (ap₂ _+ℤ_ (triple-difference c d) (negated-difference a b) ∙ sum-difference (3 * c) (3 * d) b a)
+    ∙ within-difference (3 * a + c) (3 * b + d) (3 * c + b) (3 * d + a)
+    ∙ ap₂ _&&_ (leb-same (suc (3 * b + d + (3 * d + a))) (3 * c + b + (3 * a + c)) (suc (b + 2 * d)) (2 * c + a) (λ l. omega arith) (λ l. omega arith))
+    (leb-same (3 * c + b + (3 * b + d)) (3 * a + c + (3 * d + a)) (c + 2 * b) (2 * a + d) (λ l. omega arith) (λ l. omega arith))
+
+module _ (m n a b : ℕ) (e : Sloped m n) where
+  abbrev sloped : Region m
+  sloped =
+      record {
+        p = λ a b c d. suc (b + n * d);
+        q = λ a b c d. n * c + a;
+        r = λ a b c d. c + n * b;
+        s = λ a b c d. n * a + d;
+        are = e;
+      }
+
+  -- neither the turn by 90° nor that by 180°
+  turn-near : (j : ℕ) → inFirst m (base m a b) ≡ eqb 0 j → eqb 1 j ≡ false → eqb 2 j ≡ false → inFirst m (turnedBy 3 (base m a b)) ≡ eqb 3 j → Turn m (base m a b) j
+  turn-near j f g h i =
+      record {
+        at-0 = f;
+        at-1 = not-r m sloped _ 0 b (suc a) 0 (is-1 m a b) (omega arith) ∙ sym g;
+        at-2 = not-p m sloped _ 0 (suc a) 0 b (is-2 m a b) (omega arith) ∙ sym h;
+        at-3 = i;
+      }
+
+  pub turn-within : b ≤ n * suc a → Turn m (base m a b) 0
+  turn-within l =
+      turn-near 0 (inside m sloped _ (suc a) 0 b 0 (is-0 m a b) (omega arith) (omega arith)) refl refl (not-p m sloped _ b 0 0 (suc a) (is-3 m a b) (omega arith))
+
+  pub turn-past : n * suc a < b → Turn m (base m a b) 3
+  turn-past l =
+      turn-near 3 (not-r m sloped _ (suc a) 0 b 0 (is-0 m a b) (omega arith)) refl refl (inside m sloped _ b 0 0 (suc a) (is-3 m a b) (omega arith) (omega arith))
+
+-- the turn that lies in the first region, in modes 2 and 4
 module _ (m a b : ℕ) where
-  pub turn-1 : m ≤ 1 → b ≤ suc a → Turn m (base m a b) 0
-  turn-1 h l =
-      let k = region-1 m h in
-      record {
-        at-0 = inside m k _ (suc a) 0 b 0 (is-0 m a b) (omega arith) (omega arith);
-        at-1 = not-r m k _ 0 b (suc a) 0 (is-1 m a b) (omega arith);
-        at-2 = not-p m k _ 0 (suc a) 0 b (is-2 m a b) (omega arith);
-        at-3 = not-p m k _ b 0 0 (suc a) (is-3 m a b) (omega arith);
-      }
-
-  pub turn-1-past : m ≤ 1 → suc a < b → Turn m (base m a b) 3
-  turn-1-past h l =
-      let k = region-1 m h in
-      record {
-        at-0 = not-r m k _ (suc a) 0 b 0 (is-0 m a b) (omega arith);
-        at-1 = not-r m k _ 0 b (suc a) 0 (is-1 m a b) (omega arith);
-        at-2 = not-p m k _ 0 (suc a) 0 b (is-2 m a b) (omega arith);
-        at-3 = inside m k _ b 0 0 (suc a) (is-3 m a b) (omega arith) (omega arith);
-      }
-
   pub turn-2 : m ≡ 2 → Turn m (base m a b) 0
   turn-2 h =
       let k = region-2 m h in
@@ -223,26 +222,6 @@ module _ (m a b : ℕ) where
         at-1 = not-r m k _ 0 b (suc a) 0 (is-1 m a b) (omega arith);
         at-2 = not-r m k _ 0 (suc a) 0 b (is-2 m a b) (omega arith);
         at-3 = not-p m k _ b 0 0 (suc a) (is-3 m a b) (omega arith);
-      }
-
-  pub turn-3 : m ≡ 3 → b ≤ 2 * suc a → Turn m (base m a b) 0
-  turn-3 h l =
-      let k = region-3 m h in
-      record {
-        at-0 = inside m k _ (suc a) 0 b 0 (is-0 m a b) (omega arith) (omega arith);
-        at-1 = not-r m k _ 0 b (suc a) 0 (is-1 m a b) (omega arith);
-        at-2 = not-p m k _ 0 (suc a) 0 b (is-2 m a b) (omega arith);
-        at-3 = not-p m k _ b 0 0 (suc a) (is-3 m a b) (omega arith);
-      }
-
-  pub turn-3-past : m ≡ 3 → 2 * suc a < b → Turn m (base m a b) 3
-  turn-3-past h l =
-      let k = region-3 m h in
-      record {
-        at-0 = not-r m k _ (suc a) 0 b 0 (is-0 m a b) (omega arith);
-        at-1 = not-r m k _ 0 b (suc a) 0 (is-1 m a b) (omega arith);
-        at-2 = not-p m k _ 0 (suc a) 0 b (is-2 m a b) (omega arith);
-        at-3 = inside m k _ b 0 0 (suc a) (is-3 m a b) (omega arith) (omega arith);
       }
 
   pub turn-4 : 1 < m → (m ≡ 2 → ⊥) → (m ≡ 3 → ⊥) → 0 < b → Turn m (base m a b) 0

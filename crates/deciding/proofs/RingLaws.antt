@@ -21,7 +21,7 @@ use Rattle.line.specs.Point.{at, isOrigin}
 use Rattle.deciding.specs.Decide.{decide}
 use Rattle.deciding.specs.Sizes.{bitOf, belowOf, quadrantOf, sq, farOf, ringOf, ringIndex}
 use Rattle.line.proofs.ByMode.{mode-4}
-use Rattle.line.proofs.TableLaws.{below-at}
+use Rattle.line.proofs.TableLaws.{pairs-below}
 use Rattle.deciding.proofs.Arcs.{arc, state1, ring3, state3, decided2, ring4, outerSize, state4, decidedArc}
 use Rattle.deciding.proofs.SizeLaws.{not-zero, arc-decide}
 use Rattle.deciding.proofs.Squares.{strict}
@@ -49,7 +49,7 @@ each f g a b c d m k h l t u = go t u
   where
     at-once : (t u : Bool) → Alike f g t u → f m k t u ≡ g m k t u
     at-once t u x =
-        eqb→eq _ _ (below-at (λ j. eqb (f m j t u) (g m j t u)) 4 (below-at (λ n. every (λ j. eqb (f n j t u) (g n j t u)) (below 4)) 5 x m h) k l)
+        eqb→eq _ _ (pairs-below (λ n j. eqb (f n j t u) (g n j t u)) 5 4 x m k h l)
 
     go : (t u : Bool) → f m k t u ≡ g m k t u
     go true true = at-once true true a

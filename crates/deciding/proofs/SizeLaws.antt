@@ -2,6 +2,7 @@
 use mathlib.Core.Path.{_≡_, refl, sym, ap, ap₂, _∙_}
 use mathlib.Core.Bool.{Bool, true, false, _&&_, cond}
 use Prim.Native.Nat.{ℕ, zero, suc, _+_, _*_, _-_, _/_, _%_, _<_, _≤_}
+use native.Mathlib.Nat.{mod-lt}
 use native.Mathlib.Omega.{arith}
 use native.Mathlib.Decide.{decLe}
 use borrow.Author.Tests.{le-leb, lt-leb, ne-eqb}
@@ -18,7 +19,7 @@ use Rattle.deciding.specs.Sizes.{sq}
 use Rattle.deciding.proofs.Arcs.{arc, state1, ring3, state3, decided2, ring4, outerSize, state4, decidedArc}
 use Rattle.line.proofs.ByMode.{mode-1, mode-2, mode-3, mode-4}
 use Rattle.line.proofs.TableLaws.{below-at}
-use Rattle.deciding.proofs.RegionLaws.{Turn, turned-decide, base, turn-1, turn-1-past, turn-2, turn-3, turn-3-past, turn-4, turn-4-axis}
+use Rattle.deciding.proofs.RegionLaws.{Turn, turned-decide, base, Sloped, sloped-1, sloped-3, turn-within, turn-past, turn-2, turn-4, turn-4-axis}
 
 -- two numbers that read one column turn alike
 turns-same : (m n : ℕ) → ((s : ℕ) → turn m s ≡ turn n s) → (k s : ℕ) → turns m k s ≡ turns n k s
@@ -46,7 +47,22 @@ module _ (m k a b : ℕ) (l : k < 4) where
       → turnedAnswer m i d ≡ x → decide m (turnedBy k (base m a b)) ≡ x
   reach j i d x p t e f g = turned-decide m k (base m a b) j l p t off ∙ ap₂ (turnedAnswer m) e f ∙ g
 
--- mode 1
+-- modes 1 and 3: the state x of the first region, or the next, past n across for one along
+module _ (m n x : ℕ) (edge : Sloped m n) (ring : ℕ → ℕ) (is-first : (z : Point) → first m z ≡ State x)
+    (turned : (i : ℕ) → i < 4 → turnedAnswer m i (State x) ≡ State (ring i)) (k a b : ℕ) (l : k < 4) where
+  sloped : decide m (turnedBy k (base m a b)) ≡ State (ring ((k + cond (leb b (n * suc a)) 0 1) % 4))
+  sloped = go (decLe b (n * suc a))
+    where
+      answer : (j : ℕ) (t : Bool) → j < 4 → Turn m (base m a b) j → (k + 4 - j) % 4 ≡ (k + cond t 0 1) % 4 → leb b (n * suc a) ≡ t
+          → decide m (turnedBy k (base m a b)) ≡ State (ring ((k + cond (leb b (n * suc a)) 0 1) % 4))
+      answer j t h q e f =
+          reach m k a b l j ((k + cond t 0 1) % 4) (State x) _ h q e (is-first _)
+          (turned ((k + cond t 0 1) % 4) (mod-lt (k + cond t 0 1) (omega arith)) ∙ ap (λ (u : Bool). State (ring ((k + cond u 0 1) % 4))) (sym f))
+
+      go : Dec (b ≤ n * suc a) → decide m (turnedBy k (base m a b)) ≡ State (ring ((k + cond (leb b (n * suc a)) 0 1) % 4))
+      go (yes p) = answer 0 true (omega arith) (turn-within m n a b edge p) (omega arith) (le-leb b (n * suc a) p)
+      go (no p) = answer 3 false (omega arith) (turn-past m n a b edge (omega (arith, p))) (omega arith) (lt-leb b (n * suc a) (omega (arith, p)))
+
 module _ (m : ℕ) (h : m ≤ 1) where
   answer-1 : (i : ℕ) → i < 4 → turnedAnswer m i (State 0) ≡ State (i * 2)
   unfolding turn step quarterSteps
@@ -54,23 +70,12 @@ module _ (m : ℕ) (h : m ≤ 1) where
       answer-same m 1 i 0 (λ s. mode-1 _ _ _ _ m h) (quarter-same m 1 (mode-1 _ _ _ _ m h))
       ∙ ap State (eqb→eq _ _ (below-at (λ j. eqb (turns 1 (j * quarterSteps 1) 0) (j * 2)) 4 tt i l))
 
-  first-1 : (z : Point) → first m z ≡ State 0
-  unfolding first
-  first-1 z = mode-1 _ _ _ _ m h
-
   arc-1 : (k a b : ℕ) → k < 4 → decide m (turnedBy k (base m a b)) ≡ State (state1 (arc k (suc a) b))
-  unfolding state1
-  arc-1 k a b l = go (decLe b (suc a))
-    where
-      go : Dec (b ≤ suc a) → decide m (turnedBy k (base m a b)) ≡ State (state1 (arc k (suc a) b))
-      go (yes p) =
-          reach m k a b l 0 ((k + 0) % 4) (State 0) (State (state1 (arc k (suc a) b))) (omega arith) (turn-1 m a b h p) (omega arith) (first-1 _)
-          (answer-1 ((k + 0) % 4) (omega arith) ∙ ap (λ (t : Bool). State ((k + cond t 0 1) % 4 * 2)) (sym (le-leb b (suc a) p)))
-      go (no p) =
-          reach m k a b l 3 ((k + 1) % 4) (State 0) (State (state1 (arc k (suc a) b))) (omega arith) (turn-1-past m a b h (omega (arith, p))) (omega arith) (first-1 _)
-          (answer-1 ((k + 1) % 4) (omega arith) ∙ ap (λ (t : Bool). State ((k + cond t 0 1) % 4 * 2)) (sym (lt-leb b (suc a) (omega (arith, p)))))
+  unfolding state1 first
+  arc-1 k a b l =
+      sloped m 1 0 (sloped-1 m h) (λ i. i * 2) (λ z. mode-1 _ _ _ _ m h) answer-1 k a b l
+      ∙ ap (λ (n : ℕ). State ((k + cond (leb b n) 0 1) % 4 * 2)) (let e : 1 * suc a ≡ suc a = omega arith in e)
 
--- mode 3
 module _ (m : ℕ) (h : m ≡ 3) where
   answer-3 : (i : ℕ) → i < 4 → turnedAnswer m i (State 13) ≡ State (getD ring3 i 0)
   unfolding turn step quarterSteps quadrant nextQuadrant ring3
@@ -78,21 +83,9 @@ module _ (m : ℕ) (h : m ≡ 3) where
       answer-same m 3 i 13 (λ s. mode-3 _ _ _ _ m h) (quarter-same m 3 (mode-3 _ _ _ _ m h))
       ∙ ap State (eqb→eq _ _ (below-at (λ j. eqb (turns 3 (j * quarterSteps 3) 13) (getD ring3 j 0)) 4 tt i l))
 
-  first-3 : (z : Point) → first m z ≡ State 13
-  unfolding first
-  first-3 z = mode-3 _ _ _ _ m h
-
   arc-3 : (k a b : ℕ) → k < 4 → decide m (turnedBy k (base m a b)) ≡ State (state3 (arc k (suc a) b))
-  unfolding state3
-  arc-3 k a b l = go (decLe b (2 * suc a))
-    where
-      go : Dec (b ≤ 2 * suc a) → decide m (turnedBy k (base m a b)) ≡ State (state3 (arc k (suc a) b))
-      go (yes p) =
-          reach m k a b l 0 ((k + 0) % 4) (State 13) (State (state3 (arc k (suc a) b))) (omega arith) (turn-3 m a b h p) (omega arith) (first-3 _)
-          (answer-3 ((k + 0) % 4) (omega arith) ∙ ap (λ (t : Bool). State (getD ring3 ((k + cond t 0 1) % 4) 0)) (sym (le-leb b (2 * suc a) p)))
-      go (no p) =
-          reach m k a b l 3 ((k + 1) % 4) (State 13) (State (state3 (arc k (suc a) b))) (omega arith) (turn-3-past m a b h (omega (arith, p))) (omega arith) (first-3 _)
-          (answer-3 ((k + 1) % 4) (omega arith) ∙ ap (λ (t : Bool). State (getD ring3 ((k + cond t 0 1) % 4) 0)) (sym (lt-leb b (2 * suc a) (omega (arith, p)))))
+  unfolding state3 first
+  arc-3 = sloped m 2 13 (sloped-3 m h) (λ i. getD ring3 i 0) (λ z. mode-3 _ _ _ _ m h) answer-3
 
 -- mode 2
 answer-2 : (m k s r : ℕ) → m ≡ 2 → k < 4 → T (every (λ j. eqb (turns 2 (j * quarterSteps 2) s) ((j * 2 + r) % 8)) (below 4)) → turnedAnswer m k (State s) ≡ State ((k * 2 + r) % 8)

@@ -6,6 +6,7 @@ ghost use lib.IntN.{pos};
 ghost use lib.ListN.{getD};
 ghost use Rattle.line.specs.Point.{at, isOrigin};
 ghost use Rattle.deciding.specs.Decide.{decide as decideSpec};
+ghost use Rattle.deciding.specs.Facts.{Told};
 ghost use Rattle.deciding.specs.Sizes.{bitOf, belowOf, farOf, ringOf, ringIndex};
 use line::size;
 
@@ -102,6 +103,7 @@ pub fn state_at(mode: u8, ring: &[u8; 16], re: i16, im: i16) -> u8
 // The state of a point, for every pair of coordinates.
 pub fn decide(mode: u8, re: i16, im: i16) -> Decision
     ensures { λ r. ⌜ r ≡ decideSpec mode (at re im) ⌝ }
+    ensures { λ r. ⌜ Told mode (at re im) r ⌝ }
 {
     if is_origin(re, im) {
         return Decision::Origin;

@@ -5,4 +5,3 @@ pub mod Signed
 pub mod PointLaws
 pub mod StateLaws
 pub mod RefusalLaws
-pub mod ConstellationLaws

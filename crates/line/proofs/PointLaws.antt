@@ -2,14 +2,16 @@
 use mathlib.Core.Path.{_≡_, refl, sym, ap, ap₂, _∙_}
 use mathlib.Core.Bool.{Bool, _&&_, and-true, and-assoc}
 use mathlib.Core.List.{List, [], _∷_}
-use Prim.Native.Nat.{ℕ, suc, _+_, _/_, _≤_, _<_}
+use Prim.Native.Nat.{ℕ, suc, _+_, _/_, _%_, _≤_, _<_}
 use native.Mathlib.Omega.{arith}
 use lib.Dec.{leb, leb·suc-suc}
 use lib.IntN.{ℤ, pos, negsuc}
 use lib.Signed.{leZ}
 use lib.ListN.{length, getD, drop, length-drop, drop-of-length-le}
 use lib.Seq.{drop-cons}
-use Rattle.line.specs.Point.{at, pairs, coordinateIn, coordinatesIn}
+use Rattle.line.specs.declared.Point.{Point}
+use Rattle.line.specs.Mode.{byMode}
+use Rattle.line.specs.Point.{at, pairs, coordinateIn, coordinatesIn, sent27, sent32, sentPoint}
 
 -- the two tests of a coordinate
 pub coordinate-in : (x : ℤ) → (leZ (negsuc 16383) x && leZ x (pos 16384)) ≡ coordinateIn x
@@ -46,3 +48,10 @@ pub pairs-length : (zs : List ℤ) → length (pairs zs) ≡ length zs / 2
 pairs-length [] = refl
 pairs-length (x ∷ []) = refl
 pairs-length (x ∷ y ∷ zs) = let e : length (pairs zs) ≡ length zs / 2 = pairs-length zs in omega arith
+
+-- a number comes round as the constellation of 16 does
+pub sent-round : (m s : ℕ) → sentPoint m (s % 16) ≡ sentPoint m s
+unfolding sentPoint
+sent-round m s =
+    ap₂ (λ (i j : ℕ). let v27 : Point = getD sent27 i (at (pos 0) (pos 0)) in let v32 : Point = getD sent32 j (at (pos 0) (pos 0)) in byMode m v27 v27 v32 v32)
+    (let e : s % 16 % 8 ≡ s % 8 = omega arith in e) (let e : s % 16 % 16 ≡ s % 16 = omega arith in e)

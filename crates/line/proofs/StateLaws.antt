@@ -11,7 +11,7 @@ use lib.ListN.{getD}
 use Rattle.line.specs.declared.Point.{Point}
 use Rattle.line.specs.Table.{member, below, every}
 use Rattle.line.specs.Mode.{isMode, step, states, isState, quadrant, nextQuadrant, turn, turns, quarterSteps, wholeSteps}
-use Rattle.line.specs.Point.{inRange, isOrigin, turned, sent27, levels32, sent32, sentPoint}
+use Rattle.line.specs.Point.{inRange, isOrigin, turned, sent27, levels32, sent32, sentPoint, SentTurned}
 use Rattle.line.proofs.ByMode.{mode-1, mode-2, mode-3, mode-4}
 use Rattle.line.proofs.TableLaws.{and-right, every-at, below-at, all, test-at, no-so, alike, alike-eq}
 
@@ -117,8 +117,7 @@ same-at f g (y ∷ ys) x e h =
     let e1 : map f ys ≡ map g ys = cc in
     same-or f g x y (member x ys) (eqb x y) refl e0 (same-at f g ys x e1) h
 
--- "a turn of 90° takes a state to the one sent at its turned point", for every mode
-pub sent-turned : (m x : ℕ) → T (isMode m) → T (isState m x) → sentPoint m (turns m (quarterSteps m) x) ≡ turned (sentPoint m x)
+pub sent-turned : SentTurned
 unfolding isState
 sent-turned m x hm hx =
     same-at (λ s. sentPoint m (turns m (quarterSteps m) s)) (λ s. turned (sentPoint m s)) (states m) x

@@ -1,14 +1,16 @@
 -- A test over a list, computed once, and the law that carries it to each member. Assumes nothing.
-use mathlib.Core.Path.{_≡_, refl, sym, subst}
+use mathlib.Core.Path.{_≡_, refl, sym, ap, _∙_, subst}
 use mathlib.Core.Bool.{Bool, true, false, _&&_, _||_, not, cond}
 use mathlib.Core.List.{List, [], _∷_}
 use Prim.Native.Nat.{ℕ, zero, suc, _+_, _-_, _%_, _<_, _≤_}
 use native.Mathlib.Nat.{not-suc-le-zero, mod-lt}
 use native.Mathlib.Omega.{arith}
+use native.Mathlib.Decide.{decLt}
 use borrow.Author.Tests.{eqb-false}
 use lib.Dec.{T, eqb, ltb, eqb→eq, ltb→lt}
-use lib.ListN.{length, getD}
-use Rattle.line.specs.Table.{entry, rowFrom, member, below, every}
+use lib.ListN.{length, getD, set, replicate, length-set}
+use lib.Seq.{getD-set-same, getD-set-other}
+use Rattle.line.specs.Table.{entry, rowFrom, member, below, every, Tabled}
 
 pub and-left : (a b : Bool) → T (a && b) → T a
 and-left true b t = tt
@@ -63,6 +65,10 @@ member-below (suc n) x h = member-or x n (member x (below n)) (eqb x n) refl (λ
 pub below-at : (f : ℕ → Bool) (n : ℕ) → T (every f (below n)) → (x : ℕ) → x < n → T (f x)
 below-at f n t x h = every-at f (below n) x t (member-below n x h)
 
+-- and of pairs
+pub pairs-below : (f : ℕ → ℕ → Bool) (n k : ℕ) → T (every (λ x. every (f x) (below k)) (below n)) → (x y : ℕ) → x < n → y < k → T (f x y)
+pairs-below f n k t x y h l = below-at (f x) k (below-at (λ i. every (f i) (below k)) n t x h) y l
+
 -- all of some tests, and the test at a place
 abbrev pub all : List Bool → Bool
 all [] = true
@@ -90,3 +96,24 @@ pub row-below : (f : ℕ → Bool) (k n : ℕ) → rowFrom f k n ≤ k + n
 unfolding rowFrom
 row-below f k zero = omega arith
 row-below f k (suc n) = row-step (f k) k n (rowFrom f (suc k) n) (row-below f (suc k) n)
+
+-- a table that is filled from its first entry on
+module _ {A : Type 0} (rule : ℕ → A) (none : A) where
+  abbrev pub FilledTo : ℕ → List A → Type 0
+  FilledTo i t = (length t ≡ 16) × ((j : ℕ) → j < i → getD t j none ≡ rule j)
+
+  -- the first entry in every place, and one more
+  pub filled-first : (v : A) → v ≡ rule 0 → FilledTo 1 (replicate 16 v)
+  filled-first v e = (refl, λ j h. let z : j ≡ 0 = omega arith in ap (λ (n : ℕ). getD (replicate 16 v) n none) z ∙ e ∙ ap rule (sym z))
+
+  pub filled-next : (i : ℕ) (v : A) (t : List A) → i < 16 → FilledTo i t → v ≡ rule i → FilledTo (i + 1) (set t i v)
+  filled-next i v t h f e = (length-set t i v ∙ f .0, λ j k. go j k (decLt j i))
+    where
+      go : (j : ℕ) → j < i + 1 → Dec (j < i) → getD (set t i v) j none ≡ rule j
+      go j k (yes p) = getD-set-other t i j v none (λ q. omega arith) ∙ f .1 j p
+      go j k (no p) =
+          let q : j ≡ i = omega (arith, p) in
+          ap (λ (n : ℕ). getD (set t i v) n none) q ∙ getD-set-same t i v none (omega (arith, f .0)) ∙ e ∙ ap rule (sym q)
+
+  pub filled-all : (i : ℕ) (t : List A) → 16 ≤ i → FilledTo i t → Tabled 16 rule none t
+  filled-all i t h f = record { size = f .0; at = λ j k. f .1 j (omega arith) }

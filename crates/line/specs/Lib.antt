@@ -2,4 +2,3 @@ pub mod Table
 pub mod Mode
 pub mod Point
 pub mod Refusal
-pub mod Constellation

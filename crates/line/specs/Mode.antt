@@ -51,7 +51,7 @@ unfoldable pub nextQuadrant : List ℕ
 nextQuadrant = 1 ∷ 3 ∷ 0 ∷ 2 ∷ []
 
 -- one step of the mode: 45° adds 1 to a V.27 ter state, 7 going to 0; 90° turns the quadrant of a V.32 state.
--- That this is the state sent at the turned point is the law `sent-turned` of proofs/StateLaws.
+-- That this is the state sent at the turned point is `SentTurned` of specs/Point.
 unfoldable pub turn : ℕ → ℕ → ℕ
 turn m s =
     byMode m ((s + 2) % 8) ((s + 1) % 8) (4 * getD nextQuadrant (quadrant s) 0 + s % 4) (4 * getD nextQuadrant (quadrant s) 0 + s % 4)

@@ -1,12 +1,14 @@
 -- Document 01, "Modes, states, turns": points, their turns, and the point sent for a state.
 use Prim.Native.Nat.{ℕ, zero, suc, _%_}
-use mathlib.Core.Bool.{Bool, true, _&&_}
+use mathlib.Core.Path.{_≡_}
+use mathlib.Core.Bool.{Bool, _&&_}
 use mathlib.Core.List.{List, [], _∷_, map}
-use lib.Dec.{eqb, leb}
+use lib.Dec.{T, eqb, leb}
 use lib.ListN.{getD}
 use lib.IntN.{ℤ, pos, negsuc, negℤ, natAbs, _*ℤ_}
 use Rattle.line.specs.declared.Point.{Point}
-use Rattle.line.specs.Mode.{byMode}
+use Rattle.line.specs.Table.{every}
+use Rattle.line.specs.Mode.{byMode, isMode, isState, turns, quarterSteps}
 
 -- re and im, 1024 to one level
 abbrev pub at : ℤ → ℤ → Point
@@ -28,8 +30,7 @@ inRange p = coordinateIn (p .re) && coordinateIn (p .im)
 
 -- and each of a list
 abbrev pub coordinatesIn : List ℤ → Bool
-coordinatesIn [] = true
-coordinatesIn (x ∷ xs) = coordinateIn x && coordinatesIn xs
+coordinatesIn zs = every coordinateIn zs
 
 unfoldable pub isOrigin : Point → Bool
 isOrigin p = eqb (natAbs (p .re)) 0 && eqb (natAbs (p .im)) 0
@@ -66,3 +67,7 @@ sentPoint m s =
     let v27 : Point = getD sent27 (s % 8) (at (pos 0) (pos 0)) in
     let v32 : Point = getD sent32 (s % 16) (at (pos 0) (pos 0)) in
     byMode m v27 v27 v32 v32
+
+-- "a turn of 90° takes a state to the one sent at its turned point", in every mode: `sent-turned` of proofs/StateLaws
+abbrev pub SentTurned : Type 0
+SentTurned = (m x : ℕ) → T (isMode m) → T (isState m x) → sentPoint m (turns m (quarterSteps m) x) ≡ turned (sentPoint m x)

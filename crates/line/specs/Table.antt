@@ -1,5 +1,6 @@
 -- Lists of numbers as tables and as sets: what the definitions of this crate are written with.
-use Prim.Native.Nat.{ℕ, zero, suc, _%_}
+use Prim.Native.Nat.{ℕ, zero, suc, _%_, _<_}
+use mathlib.Core.Path.{_≡_}
 use mathlib.Core.Bool.{Bool, true, false, _&&_, _||_, cond}
 use mathlib.Core.List.{List, [], _∷_}
 use lib.Dec.{eqb}
@@ -36,3 +37,8 @@ every f (x ∷ xs) = f x && every f xs
 abbrev pub All : {A : Type 0} → (A → Type 0) → List A → Type 0
 All P [] = Unit {0}
 All P (x ∷ xs) = P x × All P xs
+
+-- a table of n entries, each by a rule; `none` stands past its end
+pub record Tabled {A : Type 0} (n : ℕ) (rule : ℕ → A) (none : A) (t : List A) : Type 0 where
+  pub size : length t ≡ n
+  pub at : (i : ℕ) → i < n → getD t i none ≡ rule i

@@ -1,11 +1,11 @@
 // Modes, roles, states and points: document 01.
 ghost use mathlib.Core.Path.{_≡_};
 ghost use Prim.Native.Nat.{_≤_};
-ghost use lib.IntN.{natAbs};
+ghost use lib.IntN.{pos, natAbs};
+ghost use Rattle.line.specs.Table.{Tabled};
 ghost use Rattle.line.specs.Mode.{isMode, isRole, width, capacity, isState};
 ghost use Rattle.line.specs.Point.{at, coordinateIn, inRange, coordinatesIn, sentPoint};
 ghost use Rattle.line.specs.Refusal.{orNext, modeRefusal};
-ghost use Rattle.line.specs.Constellation.{sentPoints};
 
 // A point: 1024 to one level.
 pub struct Point {
@@ -214,29 +214,13 @@ pub fn all_in_range(numbers: &[i16]) -> bool
 
 // The points of the states 0 to 15. A caller binds them once before a loop: a constant is built anew at each use.
 pub fn constellation(mode: u8) -> [Point; 16]
-    ensures { λ r. ⌜ r ≡ sentPoints mode ⌝ }
+    ensures { λ r. ⌜ Tabled 16 (sentPoint mode) (at (pos 0) (pos 0)) r ⌝ }
 {
-    if mode <= 2 {
-        let t = SENT27;
-        [
-            t[0],
-            t[1],
-            t[2],
-            t[3],
-            t[4],
-            t[5],
-            t[6],
-            t[7],
-            t[0],
-            t[1],
-            t[2],
-            t[3],
-            t[4],
-            t[5],
-            t[6],
-            t[7],
-        ]
-    } else {
-        SENT32
+    let mut points = [sent_point(mode, 0); 16];
+    let mut s: u8 = 1;
+    while s < 16 {
+        points[s as usize] = sent_point(mode, s);
+        s += 1;
     }
+    points
 }

@@ -1,7 +1,7 @@
 -- Descrambling: the marks stand in front, the scrambler is undone, and what the functions compute of a group. Assumes nothing.
 use Prim.Native.Nat.{ℕ, zero, suc, _+_, _*_, _-_, _^_, _/_, _%_, _<_, _≤_, min}
 use mathlib.Core.Path.{_≡_, refl, sym, _∙_, ap, ap₂, subst, subst⁻¹}
-use mathlib.Core.List.{List, [], _∷_, _++_, map}
+use mathlib.Core.List.{List, [], _∷_, _++_}
 use native.Mathlib.Nat.{mod-le, mod-lt, mod-eq-of-lt, mul-assoc, mul-add-mod-self-right, sub-zero}
 use native.Mathlib.Omega.{arith}
 use borrow.Author.Tests.{le-leb, lt-leb}
@@ -20,6 +20,7 @@ use Rattle.scrambler.specs.Bits.{isBit, bits, value}
 use Rattle.scrambler.specs.Register.{register, nearTap, push, pushes}
 use Rattle.scrambler.specs.Scramble.{mix, scramble, Datum, unsettled, settled, mark, descramble}
 use Rattle.scrambler.specs.Group.{scrambled, plainOf, unsettledIn, descrambled, marked}
+use Rattle.scrambler.specs.Facts.{Unscrambled}
 use Rattle.scrambler.specs.Windows.{mixedAtOnce}
 use Rattle.scrambler.proofs.BitLaws.{length-bits, value-small, bits-value}
 use Rattle.scrambler.proofs.RegisterLaws.{push-group, full-push}
@@ -52,8 +53,7 @@ mix-mix : (m role : ℕ) (h : Register) (d : ℕ) → d < 2 → mix m role h (mi
 unfolding mix
 mix-mix m role h d p = omega arith
 
-pub unscramble : (m role : ℕ) (h : Register) (ds : List ℕ) → capacity m ≤ h .held .0 → T (every isBit ds)
-    → descramble m role h (scramble m role h ds) ≡ map settled ds
+pub unscramble : Unscrambled
 unfolding isBit
 unscramble m role h [] p t = refl
 unscramble m role h (d ∷ ds) p t =

@@ -1,7 +1,7 @@
 -- The register: what it holds, what a group pushes into it, and that R equal line bits make two registers one. Assumes nothing.
 use Prim.Native.Nat.{ℕ, zero, suc, _+_, _*_, _-_, _^_, _/_, _%_, _<_, _≤_, min}
-use mathlib.Core.Path.{_≡_, refl, sym, _∙_, ap, ap₂, subst}
-use mathlib.Core.Bool.{Bool, true, false, _&&_, and-true}
+use mathlib.Core.Path.{_≡_, refl, sym, _∙_, ap, subst}
+use mathlib.Core.Bool.{Bool, false, _&&_}
 use mathlib.Core.List.{List, [], _∷_, _++_}
 use native.Mathlib.Nat.{mod-lt, mod-le, mod-eq-of-lt, div-add-mod', mul-add-mod-self-right, add-mod, pow-le-pow-right, le-trans, two-pow-succ, div-eq-of-lt}
 use native.Mathlib.Omega.{arith}
@@ -9,7 +9,7 @@ use native.Mathlib.Decide.{decLe, decLt}
 use borrow.Author.Tests.{le-leb, lt-leb, lt-ltb, le-ltb, eq-eqb, ne-eqb}
 use lib.Dec.{T, leb, ltb, eqb, ltb→lt, leb→le, lt→ltb, le→leb, lit<}
 use lib.ListN.{length, getD}
-use lib.Pow.{pow-pos, pow-add, mod-mod-pow}
+use lib.Pow.{pow-pos, mod-mod-pow}
 use Rattle.line.specs.Table.{every}
 use Rattle.line.specs.Mode.{capacity}
 use Rattle.line.proofs.TableLaws.{and-left, and-right, and-intro}
@@ -17,7 +17,8 @@ use Rattle.line.proofs.ByMode.{capacity-range}
 use Rattle.scrambler.specs.declared.Register.{Register}
 use Rattle.scrambler.specs.Bits.{isBit, bits}
 use Rattle.scrambler.specs.Register.{register, fresh, back, push, pushes, registerOk}
-use Rattle.scrambler.proofs.BitLaws.{bit, bit-small, bit-mod, bit-double, bit-new, mod-suc-pow}
+use Rattle.scrambler.specs.Facts.{newestFirst, Holds, RegisterHolds, SameAfter}
+use Rattle.scrambler.proofs.BitLaws.{bit, bit-mod, bit-double, bit-new, mod-suc-pow}
 
 same-register : (h h′ : Register) → h .bits ≡ h′ .bits → h .held .0 ≡ h′ .held .0 → h ≡ h′
 same-register h h′ e f = λ i. record { bits = e i; held = record { 0 = f i } }
@@ -44,16 +45,6 @@ push-group m h (suc n) g =
     (let z = capacity-range m .0 in let q : min (min (h .held .0 + 1) (capacity m) + suc n) (capacity m) ≡ min (h .held .0 + suc (suc n)) (capacity m) = omega arith in q)
 
 -- WHAT IT HOLDS
-
--- the line bits so far, the newest first
-abbrev pub newestFirst : List ℕ → List ℕ → List ℕ
-newestFirst older [] = older
-newestFirst older (b ∷ bs) = newestFirst (b ∷ older) bs
-
--- the k-th of the newest line bits is the line bit k back, for k up to R; the count is theirs, up to R
-pub record Holds (m : ℕ) (h : Register) (newest : List ℕ) : Type 0 where
-  pub at : (k : ℕ) → 1 ≤ k → k ≤ capacity m → back k h ≡ getD newest (k - 1) 0
-  pub count : h .held .0 ≡ min (length newest) (capacity m)
 
 back-push : (m : ℕ) (h : Register) (b k : ℕ) → b < 2 → suc k < capacity m → back (suc (suc k)) (push m h b) ≡ back (suc k) h
 unfolding back push
@@ -91,8 +82,7 @@ holds-pushes m h (b ∷ bs) newest t p =
     holds-pushes m (push m h b) bs (b ∷ newest) (and-right (ltb b 2) (every isBit bs) t)
     (holds-push m h b newest (ltb→lt b 2 (and-left (ltb b 2) (every isBit bs) t)) p)
 
--- after the line bits since the last gap, the register holds the last of them
-pub register-holds : (m : ℕ) (bs : List ℕ) → T (every isBit bs) → Holds m (pushes m fresh bs) (newestFirst [] bs)
+pub register-holds : RegisterHolds
 register-holds m bs t =
     holds-pushes m fresh bs [] t
     (record { at = λ k l r. unfold back in (omega-zero (2 ^ (k - 1)) (pow-pos (k - 1))); count = let z = capacity-range m .0 in omega arith })
@@ -245,8 +235,7 @@ agree-pushes m k h h′ [] r a = agree-all m k h h′ (omega arith) a
 agree-pushes m k h h′ (b ∷ bs) r a =
     agree-pushes m (suc k) (push m h b) (push m h′ b) bs (omega arith) (agree-push m k h h′ b (a .newest) (a .held) (a .held′))
 
--- after R equal line bits two registers are equal, whatever they held
-pub same-after : (m : ℕ) (h h′ : Register) (bs : List ℕ) → capacity m ≤ length bs → pushes m h bs ≡ pushes m h′ bs
+pub same-after : SameAfter
 same-after m h h′ [] r = absurd (let z = capacity-range m .0 in omega arith)
 same-after m h h′ (b ∷ bs) r =
     agree-pushes m 1 (push m h b) (push m h′ b) bs (omega arith) (agree-push m 0 h h′ b (omega arith) (omega arith) (omega arith))

@@ -1,24 +1,19 @@
 -- A group is mixed at once: the bits a and R back of a group's bits all stand in the register before it. Assumes nothing.
-use Prim.Native.Nat.{ℕ, zero, suc, _+_, _*_, _-_, _^_, _/_, _%_, _<_, _≤_, min}
-use mathlib.Core.Path.{_≡_, refl, sym, _∙_, ap, ap₂, subst}
-use mathlib.Core.Bool.{Bool, true, false}
+use Prim.Native.Nat.{ℕ, zero, suc, _+_, _*_, _-_, _^_, _/_, _%_, _<_, _≤_}
+use mathlib.Core.Path.{_≡_, refl, sym, _∙_, ap, ap₂}
 use mathlib.Core.List.{List, [], _∷_}
 use native.Mathlib.Decide.{decLe}
 use native.Mathlib.Omega.{arith}
-use borrow.Author.Tests.{le-leb, lt-leb}
 use lib.Bits.{bitXor, xor-shr, xor-mod}
-use lib.Dec.{T, leb}
 use lib.ListN.{length, getD}
-use Rattle.line.specs.Table.{every}
 use Rattle.line.specs.Mode.{width, farTap, capacity}
 use Rattle.line.proofs.ByMode.{mode-short, mode-long, by-all, width-range, far-kept}
 use Rattle.scrambler.specs.declared.Register.{Register}
 use Rattle.scrambler.specs.Bits.{bits, value}
-use Rattle.scrambler.specs.Register.{register, back, nearTap, push, pushes}
-use Rattle.scrambler.specs.Scramble.{mix, scramble, Datum, unsettled, settled, mark, descramble}
-use Rattle.scrambler.specs.Group.{plainOf, unsettledIn, marked}
+use Rattle.scrambler.specs.Register.{register, back, nearTap, push}
+use Rattle.scrambler.specs.Scramble.{mix, scramble, settled}
 use Rattle.scrambler.specs.Windows.{mixedAtOnce}
-use Rattle.scrambler.proofs.BitLaws.{bit, bit-small, bit-mod, bit-double, bit-shift, mod-suc-pow, length-bits}
+use Rattle.scrambler.proofs.BitLaws.{bit, bit-small, bit-mod, bit-double, bit-shift, mod-suc-pow}
 
 -- a in V.32
 abbrev v32Tap : ℕ → ℕ

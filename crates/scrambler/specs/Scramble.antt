@@ -1,5 +1,5 @@
 -- Document 01, "Scrambler" and "Receiver": line bits from data bits, and data bits with their marks from line bits.
-use Prim.Native.Nat.{ℕ, zero, suc, _+_, _%_}
+use Prim.Native.Nat.{ℕ, _+_, _%_}
 use mathlib.Core.Bool.{Bool, true, false}
 use mathlib.Core.List.{List, [], _∷_}
 use lib.Dec.{leb}

@@ -1,8 +1,8 @@
 // The scrambler's register, and scrambling and descrambling the bits of a point: document 01.
 ghost use mathlib.Core.Path.{_≡_};
-ghost use Prim.Native.Nat.{ℕ, _-_, _^_, _%_, _≤_, _<_, min};
+ghost use Prim.Native.Nat.{_-_, _^_, _%_, _≤_, _<_, min};
 ghost use Rattle.line.specs.Mode.{width, farTap, capacity};
-ghost use Rattle.scrambler.specs.Bits.{bits, value};
+ghost use Rattle.scrambler.specs.Bits.{bits};
 ghost use Rattle.scrambler.specs.Register.{register, fresh, nearTap, pushes, registerOk};
 ghost use Rattle.scrambler.specs.Group.{scrambled, descrambled};
 ghost use Rattle.scrambler.specs.Windows.{mixedAtOnce};

@@ -10,13 +10,12 @@ use lib.Dec.{T, ltb, ltb→lt}
 use lib.IntN.{ℤ, pos}
 use lib.ListN.{length, getD, take, drop, set, length-set, length-take, length-drop}
 use lib.Seq.{drop-drop, sets}
-use Rattle.line.specs.Table.{every}
+use Rattle.line.specs.Table.{every, Tabled}
 use Rattle.line.specs.Mode.{width, face}
 use Rattle.coding.specs.Code.{coded}
 use Rattle.line.specs.declared.Point.{Point}
 use Rattle.line.specs.Point.{at, sentPoint}
-use Rattle.line.specs.Constellation.{sentPoints}
-use Rattle.line.proofs.ConstellationLaws.{table-point}
+use Rattle.line.proofs.PointLaws.{sent-round}
 use Rattle.line.proofs.TableLaws.{and-left, and-right, and-intro}
 use Rattle.scrambler.specs.declared.Scrambled.{Scrambled}
 use Rattle.scrambler.specs.Bits.{isBit, bits, value}
@@ -109,8 +108,8 @@ groups-step w at zero ds h = absurd (lt-irrefl 0 h)
 groups-step w at (suc n) ds h = simp (add-sub-cancel-left, ← drop-drop, sub-one)
 
 -- the point that the writer looks up
-pub looked-up : (m s : ℕ) (ps : List Point) → ps ≡ sentPoints m → getD ps (s % 16) (at (pos 0) (pos 0)) ≡ sentPoint m s
-looked-up m s ps e = ap (λ (qs : List Point). getD qs (s % 16) (at (pos 0) (pos 0))) e ∙ table-point m s
+pub looked-up : (m s : ℕ) (ps : List Point) → Tabled 16 (sentPoint m) (at (pos 0) (pos 0)) ps → getD ps (s % 16) (at (pos 0) (pos 0)) ≡ sentPoint m s
+looked-up m s ps t = t .at (s % 16) (omega arith) ∙ sent-round m s
 
 -- the numbers of a point, and the rest
 pub point-step : (m s : ℕ) (ss : List ℕ) (out : List ℤ) (k : ℕ) (re im : ℤ) → re ≡ sentPoint m s .re → im ≡ sentPoint m s .im

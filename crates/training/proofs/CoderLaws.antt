@@ -9,7 +9,8 @@ use lib.ListN.{length, replicate}
 use Rattle.line.specs.Mode.{isMode, width, farTap, capacity, isState, face}
 use Rattle.coding.specs.Code.{coded}
 use Rattle.line.proofs.ByMode.{by-all}
-use Rattle.coding.proofs.ModeLaws.{OfGroup, of-group}
+use Rattle.coding.specs.Facts.{OfGroup}
+use Rattle.coding.proofs.ModeLaws.{of-group}
 use Rattle.scrambler.specs.declared.Register.{Register}
 use Rattle.scrambler.specs.declared.Scrambled.{Scrambled}
 use Rattle.scrambler.specs.Bits.{bits, value}

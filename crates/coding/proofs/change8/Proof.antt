@@ -6,8 +6,6 @@ use mathlib.Core.Path.{refl}
 use borrow.Author.Needs.{needs}
 use Rattle.coding.proofs.change8.Statement.{statement}
 use Rattle.coding.proofs.change8.Tie as tie
-use Rattle.coding.proofs.change8.Reads as reads
-use Rattle.coding.proofs.change8.Lts as lts
 
 array-read-result : tie.Need-array-read-result
 array-read-result c = search needs

@@ -2,11 +2,6 @@ use Rattle.coding.proofs.CodeLaws.{group-1, group-2, group-3, group-4}
 use borrow.Author.Needs.{needs}
 use Rattle.coding.proofs.group_of.Statement.{statement}
 use Rattle.coding.proofs.group_of.Tie as tie
-use Rattle.coding.proofs.group_of.Reads as reads
-use Rattle.coding.proofs.group_of.Lts as lts
-use Rattle.coding.proofs.row16.Reads as row16-reads
-use Rattle.coding.proofs.row4.Reads as row4-reads
-use Rattle.coding.proofs.row8.Reads as row8-reads
 
 add-turn : tie.Need-add-turn
 add-turn c = search needs

@@ -2,11 +2,6 @@ use Rattle.coding.proofs.CodeLaws.{coded-1, coded-2, coded-3, coded-4}
 use borrow.Author.Needs.{needs}
 use Rattle.coding.proofs.next_state.Statement.{statement}
 use Rattle.coding.proofs.next_state.Tie as tie
-use Rattle.coding.proofs.next_state.Reads as reads
-use Rattle.coding.proofs.next_state.Lts as lts
-use Rattle.coding.proofs.change16.Reads as change16-reads
-use Rattle.coding.proofs.change4.Reads as change4-reads
-use Rattle.coding.proofs.change8.Reads as change8-reads
 
 change4-requires : tie.Need-change4-requires
 change4-requires c κs = search needs

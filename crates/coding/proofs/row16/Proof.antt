@@ -3,9 +3,6 @@ use Rattle.coding.proofs.CodeLaws.{row16-law}
 use borrow.Author.Needs.{needs}
 use Rattle.coding.proofs.row16.Statement.{statement}
 use Rattle.coding.proofs.row16.Tie as tie
-use Rattle.coding.proofs.row16.Reads as reads
-use Rattle.coding.proofs.row16.Lts as lts
-use Rattle.coding.proofs.row_if.Reads as row-if-reads
 
 add-row-if : tie.Need-add-row-if
 add-row-if c = search needs

@@ -3,9 +3,6 @@ use Rattle.coding.proofs.CodeLaws.{row8-law}
 use borrow.Author.Needs.{needs}
 use Rattle.coding.proofs.row8.Statement.{statement}
 use Rattle.coding.proofs.row8.Tie as tie
-use Rattle.coding.proofs.row8.Reads as reads
-use Rattle.coding.proofs.row8.Lts as lts
-use Rattle.coding.proofs.row_if.Reads as row-if-reads
 
 array-read-row-if : tie.Need-array-read-row-if
 array-read-row-if c = search needs

@@ -1,89 +1,63 @@
-use mathlib.Core.Path.{sym}
-use mathlib.Core.List.{_++_}
-use Rattle.line.specs.Point.{sent27, levels32, sent32}
-use Rattle.line.specs.Constellation.{sentPoints}
-use Rattle.line.proofs.ByMode.{mode-short, mode-long}
 use borrow.Author.Needs.{needs}
+use Prim.Native.Nat.{_-_, _≤_}
+use lib.IntN.{pos}
+use Rattle.line.specs.Point.{at, sentPoint}
+use Rattle.line.proofs.TableLaws.{FilledTo, filled-first, filled-next, filled-all}
+use native.Mathlib.Omega.{arith}
 use Rattle.line.proofs.constellation.Statement.{statement}
 use Rattle.line.proofs.constellation.Tie as tie
-use Rattle.line.proofs.constellation.Reads as reads
-use Rattle.line.proofs.constellation.Lts as lts
 
-array-copy-out-t5 : tie.Need-array-copy-out-t5
-array-copy-out-t5 c = search needs
+abbrev Inv-loop : tie.InvT-loop
+Inv-loop mode points₀ s₀ points s = (s ≤ 16) × FilledTo (sentPoint mode) (at (pos 0) (pos 0)) s points
 
-array-copy-out-t6 : tie.Need-array-copy-out-t6
-array-copy-out-t6 c = search needs
+abbrev μ-loop : tie.MeasureT-loop
+μ-loop mode points₀ s₀ points s = 16 - s
 
-array-copy-out-t12 : tie.Need-array-copy-out-t12
-array-copy-out-t12 c = search needs
+sent-point-requires : tie.Need-sent-point-requires Inv-loop μ-loop
+sent-point-requires c κs = search needs
 
-array-copy-out-t11 : tie.Need-array-copy-out-t11
-array-copy-out-t11 c = search needs
+loop-holds : tie.Need-loop-holds Inv-loop μ-loop
+loop-holds c = (omega arith, filled-first (sentPoint (c .before .args .mode)) (at (pos 0) (pos 0)) _ (c .sent-point .ensures))
 
-array-copy-out-t10 : tie.Need-array-copy-out-t10
-array-copy-out-t10 c = search needs
+sent-point-requires-2 : tie.Need-sent-point-requires-2 Inv-loop μ-loop
+sent-point-requires-2 c κs = search needs
 
-array-copy-out-t9 : tie.Need-array-copy-out-t9
-array-copy-out-t9 c = search needs
+cast-points : tie.Need-cast-points Inv-loop μ-loop
+cast-points c = search needs
 
-array-copy-out-t8 : tie.Need-array-copy-out-t8
-array-copy-out-t8 c = search needs
+mul-points : tie.Need-mul-points Inv-loop μ-loop
+mul-points c = search needs
 
-array-copy-out-t7 : tie.Need-array-copy-out-t7
-array-copy-out-t7 c = search needs
+array-set-from-points : tie.Need-array-set-from-points Inv-loop μ-loop
+array-set-from-points c = search needs
 
-array-copy-out-t32 : tie.Need-array-copy-out-t32
-array-copy-out-t32 c = search needs
+add-s : tie.Need-add-s Inv-loop μ-loop
+add-s c = search needs
 
-array-copy-out-t35 : tie.Need-array-copy-out-t35
-array-copy-out-t35 c = search needs
+loop-less : tie.Need-loop-less Inv-loop μ-loop
+loop-less c = search needs
 
-array-copy-out-t38 : tie.Need-array-copy-out-t38
-array-copy-out-t38 c = search needs
+loop-again : tie.Need-loop-again Inv-loop μ-loop
+loop-again c =
+    let l = c .before .before .loop in
+    (omega arith, filled-next (sentPoint (c .before .before .before .before .args .mode)) (at (pos 0) (pos 0)) (l .s) (c .sent-point2 .result) (l .points) (c .before .loop-test .taken) (l .inv .1) (c .sent-point2 .ensures))
 
-array-copy-out-t41 : tie.Need-array-copy-out-t41
-array-copy-out-t41 c = search needs
-
-array-copy-out-t44 : tie.Need-array-copy-out-t44
-array-copy-out-t44 c = search needs
-
-array-copy-out-t47 : tie.Need-array-copy-out-t47
-array-copy-out-t47 c = search needs
-
-array-copy-out-t50 : tie.Need-array-copy-out-t50
-array-copy-out-t50 c = search needs
-
-array-copy-out-t53 : tie.Need-array-copy-out-t53
-array-copy-out-t53 c = search needs
-
-returns : tie.Need-returns
-unfolding sent27 levels32 sent32 sentPoints
-returns c = sym (mode-short (sent27 ++ sent27) sent32 (c .before .before .before .before .before .before .before .before .before .before .before .before .before .before .before .before .before .args .mode) (c .before .before .before .before .before .before .before .before .before .before .before .before .before .before .before .before .if1 .taken))
-
-returns-2 : tie.Need-returns-2
-unfolding sent27 levels32 sent32 sentPoints
-returns-2 c = sym (mode-long (sent27 ++ sent27) sent32 (c .before .args .mode) (c .if1 .left))
+returns : tie.Need-returns Inv-loop μ-loop
+returns c = let l = c .before .loop in filled-all _ (at (pos 0) (pos 0)) (l .s) (l .points) (c .loop-test .left) (l .inv .1)
 
 pub constellation-spec : {M : Type 1} → statement M
 constellation-spec =
     tie.close
     (tie.spec
-    array-copy-out-t5
-    array-copy-out-t6
-    array-copy-out-t12
-    array-copy-out-t11
-    array-copy-out-t10
-    array-copy-out-t9
-    array-copy-out-t8
-    array-copy-out-t7
-    array-copy-out-t32
-    array-copy-out-t35
-    array-copy-out-t38
-    array-copy-out-t41
-    array-copy-out-t44
-    array-copy-out-t47
-    array-copy-out-t50
-    array-copy-out-t53
-    returns
-    returns-2)
+    Inv-loop
+    μ-loop
+    sent-point-requires
+    loop-holds
+    sent-point-requires-2
+    cast-points
+    mul-points
+    array-set-from-points
+    add-s
+    loop-less
+    loop-again
+    returns)

@@ -2,8 +2,6 @@ use mir.Facts.{toZ-ofZ}
 use Rattle.line.proofs.PointLaws.{coordinate-in}
 use Rattle.line.proofs.coordinate_ok.Statement.{statement}
 use Rattle.line.proofs.coordinate_ok.Tie as tie
-use Rattle.line.proofs.coordinate_ok.Reads as reads
-use Rattle.line.proofs.coordinate_ok.Lts as lts
 
 returns : tie.Need-returns
 returns c = rw (toZ-ofZ (c .fits .x)) (coordinate-in (c .args .x))

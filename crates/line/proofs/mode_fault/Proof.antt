@@ -2,11 +2,6 @@ use Rattle.line.specs.Refusal.{modeRefusal}
 use borrow.Author.Needs.{needs}
 use Rattle.line.proofs.mode_fault.Statement.{statement}
 use Rattle.line.proofs.mode_fault.Tie as tie
-use Rattle.line.proofs.mode_fault.Reads as reads
-use Rattle.line.proofs.mode_fault.Lts as lts
-use Rattle.line.proofs.mode_ok.Reads as mode-ok-reads
-use Rattle.line.proofs.need.Reads as need-reads
-use Rattle.line.proofs.role_ok.Reads as role-ok-reads
 
 mode-ok-requires : tie.Need-mode-ok-requires
 mode-ok-requires c κs = search needs

@@ -1,10 +1,7 @@
 use Rattle.line.proofs.RefusalLaws.{or-some}
-use mathlib.Core.Path.{_≡_, refl, sym, ap, _∙_}
 use borrow.Author.Needs.{needs}
 use Rattle.line.proofs.or_next.Statement.{statement}
 use Rattle.line.proofs.or_next.Tie as tie
-use Rattle.line.proofs.or_next.Reads as reads
-use Rattle.line.proofs.or_next.Lts as lts
 
 returns : tie.Need-returns
 returns c = search needs

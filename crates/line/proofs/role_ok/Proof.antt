@@ -2,8 +2,6 @@ use Rattle.line.specs.Mode.{isRole}
 use Rattle.line.proofs.Tests.{tests}
 use Rattle.line.proofs.role_ok.Statement.{statement}
 use Rattle.line.proofs.role_ok.Tie as tie
-use Rattle.line.proofs.role_ok.Reads as reads
-use Rattle.line.proofs.role_ok.Lts as lts
 
 returns : tie.Need-returns
 unfolding isRole

@@ -3,8 +3,6 @@ use Rattle.line.proofs.Tests.{tests}
 use borrow.Author.Needs.{needs}
 use Rattle.line.proofs.sent_point.Statement.{statement}
 use Rattle.line.proofs.sent_point.Tie as tie
-use Rattle.line.proofs.sent_point.Reads as reads
-use Rattle.line.proofs.sent_point.Lts as lts
 
 mul-result : tie.Need-mul-result
 mul-result c = search needs

@@ -1,14 +1,11 @@
 use Rattle.line.proofs.Signed.{back, test-is, negated, fits-size, sfits-size, is-true, small}
-use borrow.Author.Needs.{needs}
 use mir.Facts.{sfits-widen, toZ-ofZ}
-use mir.Syntax.{w16, w32}
+use mir.Syntax.{w32}
 use lib.Signed.{leZ, nonNeg}
-use lib.IntN.{pos, natAbs}
+use lib.IntN.{pos}
 use mathlib.Core.Path.{_∙_, ap, sym, refl}
 use Rattle.line.proofs.size.Statement.{statement}
 use Rattle.line.proofs.size.Tie as tie
-use Rattle.line.proofs.size.Reads as reads
-use Rattle.line.proofs.size.Lts as lts
 
 cast-result : tie.Need-cast-result
 cast-result c = let x = c .before .args .x in let f = c .before .fits .x in rw (back x f) (is-true (nonNeg x) (sym (test-is x) ∙ ap (leZ (pos 0)) (sym (back x f)) ∙ c .if1 .taken), fits-size x f)

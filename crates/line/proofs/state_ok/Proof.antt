@@ -1,8 +1,6 @@
 use Rattle.line.proofs.StateLaws.{states-1, states-2, states-3, states-4}
 use Rattle.line.proofs.state_ok.Statement.{statement}
 use Rattle.line.proofs.state_ok.Tie as tie
-use Rattle.line.proofs.state_ok.Reads as reads
-use Rattle.line.proofs.state_ok.Lts as lts
 
 returns : tie.Need-returns
 returns c = search states-1

@@ -2,8 +2,6 @@ use Rattle.line.specs.Mode.{width}
 use Rattle.line.proofs.Tests.{tests}
 use Rattle.line.proofs.width_of.Statement.{statement}
 use Rattle.line.proofs.width_of.Tie as tie
-use Rattle.line.proofs.width_of.Reads as reads
-use Rattle.line.proofs.width_of.Lts as lts
 
 returns : tie.Need-returns
 unfolding width

@@ -4,14 +4,6 @@ use native.Mathlib.Omega.{arith}
 use borrow.Author.Needs.{needs}
 use Rattle.scrambler.proofs.descramble_group.Statement.{statement}
 use Rattle.scrambler.proofs.descramble_group.Tie as tie
-use Rattle.scrambler.proofs.descramble_group.Reads as reads
-use Rattle.scrambler.proofs.descramble_group.Lts as lts
-use Rattle.line.proofs.capacity_of.Reads as capacity-of-reads
-use Rattle.line.proofs.width_of.Reads as width-of-reads
-use Rattle.scrambler.proofs.mixed.Reads as mixed-reads
-use Rattle.scrambler.proofs.push_group.Reads as push-group-reads
-use Rattle.scrambler.proofs.unsettled_bits.Reads as unsettled-bits-reads
-use Rattle.scrambler.proofs.without_first.Reads as without-first-reads
 
 -- src/lib.rt:179:9
 width-of-requires : tie.Need-width-of-requires

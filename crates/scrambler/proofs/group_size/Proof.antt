@@ -1,12 +1,9 @@
 use mathlib.Core.Path.{_≡_}
 use Prim.Native.Nat.{ℕ, _^_}
-use mathlib.Core.Path.{ap, sym}
+use mathlib.Core.Path.{ap}
 use native.Mathlib.Omega.{arith}
-use Rattle.line.proofs.Tests.{tests}
 use Rattle.scrambler.proofs.group_size.Statement.{statement}
 use Rattle.scrambler.proofs.group_size.Tie as tie
-use Rattle.scrambler.proofs.group_size.Reads as reads
-use Rattle.scrambler.proofs.group_size.Lts as lts
 
 returns : tie.Need-returns
 returns c = (let e : 2 ≡ c .before .args .w = omega arith in ap (λ (k : ℕ). 2 ^ k) e, omega arith)

@@ -3,8 +3,6 @@ use Rattle.line.proofs.Tests.{tests}
 use borrow.Author.Needs.{needs}
 use Rattle.scrambler.proofs.keep_bits.Statement.{statement}
 use Rattle.scrambler.proofs.keep_bits.Tie as tie
-use Rattle.scrambler.proofs.keep_bits.Reads as reads
-use Rattle.scrambler.proofs.keep_bits.Lts as lts
 
 cast-result : tie.Need-cast-result
 cast-result c = search needs

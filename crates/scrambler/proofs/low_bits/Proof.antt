@@ -4,8 +4,6 @@ use Rattle.line.proofs.Tests.{tests}
 use borrow.Author.Needs.{needs}
 use Rattle.scrambler.proofs.low_bits.Statement.{statement}
 use Rattle.scrambler.proofs.low_bits.Tie as tie
-use Rattle.scrambler.proofs.low_bits.Reads as reads
-use Rattle.scrambler.proofs.low_bits.Lts as lts
 
 cast-result : tie.Need-cast-result
 cast-result c = search needs

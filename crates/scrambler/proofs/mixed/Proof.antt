@@ -1,15 +1,9 @@
-use mathlib.Core.Path.{refl}
 use Rattle.line.proofs.ByMode.{width-range}
 use native.Mathlib.Omega.{arith}
 use Rattle.scrambler.proofs.GroupLaws.{mixed-law}
 use borrow.Author.Needs.{needs}
 use Rattle.scrambler.proofs.mixed.Statement.{statement}
 use Rattle.scrambler.proofs.mixed.Tie as tie
-use Rattle.scrambler.proofs.mixed.Reads as reads
-use Rattle.scrambler.proofs.mixed.Lts as lts
-use Rattle.line.proofs.width_of.Reads as width-of-reads
-use Rattle.scrambler.proofs.low_bits.Reads as low-bits-reads
-use Rattle.scrambler.proofs.near_tap.Reads as near-tap-reads
 
 width-of-requires : tie.Need-width-of-requires
 width-of-requires c κs = search needs

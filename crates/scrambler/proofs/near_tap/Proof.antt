@@ -1,12 +1,7 @@
 use native.Mathlib.Omega.{arith}
 use Rattle.scrambler.proofs.WindowLaws.{tap-6, tap-18, tap-5}
-use borrow.Author.Needs.{needs}
-use Rattle.scrambler.specs.Register.{nearTap}
-use Rattle.line.proofs.Tests.{tests}
 use Rattle.scrambler.proofs.near_tap.Statement.{statement}
 use Rattle.scrambler.proofs.near_tap.Tie as tie
-use Rattle.scrambler.proofs.near_tap.Reads as reads
-use Rattle.scrambler.proofs.near_tap.Lts as lts
 
 returns : tie.Need-returns
 returns c = (search tap-6, omega arith)

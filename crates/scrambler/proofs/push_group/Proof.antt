@@ -5,13 +5,6 @@ use native.Mathlib.Omega.{arith}
 use borrow.Author.Needs.{needs}
 use Rattle.scrambler.proofs.push_group.Statement.{statement}
 use Rattle.scrambler.proofs.push_group.Tie as tie
-use Rattle.scrambler.proofs.push_group.Reads as reads
-use Rattle.scrambler.proofs.push_group.Lts as lts
-use Rattle.line.proofs.capacity_of.Reads as capacity-of-reads
-use Rattle.line.proofs.width_of.Reads as width-of-reads
-use Rattle.scrambler.proofs.group_size.Reads as group-size-reads
-use Rattle.scrambler.proofs.keep_bits.Reads as keep-bits-reads
-use Rattle.scrambler.proofs.low_bits.Reads as low-bits-reads
 
 cast-n : tie.Need-cast-n
 cast-n c = search needs

@@ -1,12 +1,9 @@
-use Rattle.line.proofs.ByMode.{width-range, capacity-range}
+use Rattle.line.proofs.ByMode.{capacity-range}
 use native.Mathlib.Omega.{arith}
 use Rattle.scrambler.proofs.RegisterLaws.{ok-law, not-ok-law}
 use borrow.Author.Needs.{needs}
 use Rattle.scrambler.proofs.register_ok.Statement.{statement}
 use Rattle.scrambler.proofs.register_ok.Tie as tie
-use Rattle.scrambler.proofs.register_ok.Reads as reads
-use Rattle.scrambler.proofs.register_ok.Lts as lts
-use Rattle.line.proofs.capacity_of.Reads as capacity-of-reads
 
 capacity-of-requires : tie.Need-capacity-of-requires
 capacity-of-requires c κs = search needs

@@ -2,10 +2,6 @@ use Rattle.scrambler.proofs.GroupLaws.{scramble-law}
 use borrow.Author.Needs.{needs}
 use Rattle.scrambler.proofs.scramble_group.Statement.{statement}
 use Rattle.scrambler.proofs.scramble_group.Tie as tie
-use Rattle.scrambler.proofs.scramble_group.Reads as reads
-use Rattle.scrambler.proofs.scramble_group.Lts as lts
-use Rattle.scrambler.proofs.mixed.Reads as mixed-reads
-use Rattle.scrambler.proofs.push_group.Reads as push-group-reads
 
 -- src/lib.rt:140:9
 mixed-requires : tie.Need-mixed-requires

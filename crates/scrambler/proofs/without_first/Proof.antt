@@ -5,8 +5,6 @@ use native.Mathlib.Omega.{arith}
 use borrow.Author.Needs.{needs}
 use Rattle.scrambler.proofs.without_first.Statement.{statement}
 use Rattle.scrambler.proofs.without_first.Tie as tie
-use Rattle.scrambler.proofs.without_first.Reads as reads
-use Rattle.scrambler.proofs.without_first.Lts as lts
 
 -- src/lib.rt:160:9
 returns : tie.Need-returns
