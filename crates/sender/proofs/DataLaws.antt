@@ -1,42 +1,37 @@
 -- Data points: what they stand as, that a list of calls makes them one after another, and that they are read back. Assumes nothing.
-use Prim.Native.Nat.{ℕ, zero, suc, _+_, _*_, _/_, _%_, _<_, _≤_}
-use mathlib.Core.Path.{_≡_, refl, sym, _∙_, ap, ap₂, subst, subst₂}
-use mathlib.Core.Bool.{Bool, true, false}
-use mathlib.Core.List.{List, [], _∷_, _++_, map, map-append}
-use native.Mathlib.Numerals.{add-one, towards-suc}
-use native.Mathlib.Nat.{le-of-eq}
+use Prim.Native.Nat.{ℕ, suc, _+_, _*_, _<_, _≤_}
+use mathlib.Core.Path.{_≡_, refl, sym, _∙_, ap, ap₂, subst}
+use mathlib.Core.List.{List, [], _∷_, _++_}
+use native.Mathlib.Numerals.{towards-suc}
 use native.Mathlib.Omega.{arith}
 use lib.Dec.{T}
 use lib.IntN.{ℤ, pos}
 use lib.ListN.{length, getD, set, length-set}
 use lib.Seq.{sets, getD-set-same, getD-set-other}
 use Rattle.line.specs.declared.Point.{Point}
-use Rattle.deciding.specs.declared.Decision.{Decision}
-use Rattle.deciding.specs.declared.Decision.the-variants.{State, Origin, NoSector}
+use Rattle.deciding.specs.declared.Decision.the-variants.{State}
 use Rattle.line.specs.Table.{every}
-use Rattle.line.specs.Mode.{isMode, width, capacity, face}
-use Rattle.line.specs.Point.{at, sentPoint}
-use Rattle.deciding.specs.Decide.{decide, stateIn}
-use Rattle.coding.specs.Code.{coded, group}
-use Rattle.coding.proofs.ModeLaws.{OfGroup, OfState, of-state}
-use Rattle.scrambler.specs.declared.Register.{Register}
+use Rattle.line.specs.Mode.{width, face}
+use Rattle.line.specs.Point.{sentPoint}
+use Rattle.deciding.specs.Decide.{decide}
+use Rattle.coding.specs.Code.{group}
+use Rattle.coding.proofs.ModeLaws.{of-state}
 use Rattle.scrambler.specs.Bits.{isBit, bits, value}
 use Rattle.scrambler.specs.Register.{pushes}
-use Rattle.scrambler.specs.Scramble.{scramble, Datum, settled, descramble}
+use Rattle.scrambler.specs.Scramble.{scramble}
 use Rattle.scrambler.proofs.BitLaws.{bits-value}
-use Rattle.scrambler.proofs.RegisterLaws.{Ok}
-use Rattle.scrambler.proofs.GroupLaws.{length-scramble, bits-scramble, unscramble, descramble-append}
+use Rattle.scrambler.proofs.GroupLaws.{length-scramble, bits-scramble}
 use Rattle.training.specs.Coder.{coding, numbers}
-use Rattle.training.proofs.CoderLaws.{Ready as CanSend, lands}
+use Rattle.training.proofs.CoderLaws.{lands}
 use Rattle.sender.specs.declared.Sender.{Sender}
 use Rattle.sender.specs.declared.Sent.{Sent}
 use Rattle.sender.specs.declared.Sent.the-variants.{Refused, Ready}
-use Rattle.sender.specs.Sender.{coderOf, stateRefusal, grouped, afterGroup, afterGroups, sentStates, sendRefusal, sendAnswer, sendNumbers}
-use Rattle.sender.specs.Calls.{Send, DataPoint, answer, numbersAfter, handedOn, standing, dataOf, dataPoints}
-use Rattle.sender.proofs.RefusalLaws.{StateOk, state-ok, DataOk, send-ok}
+use Rattle.sender.specs.Sender.{coderOf, grouped, afterGroup, afterGroups, sentStates}
+use Rattle.sender.specs.Calls.{Send, DataPoint, answer, handedOn, standing, dataOf, dataPoints}
+use Rattle.sender.proofs.RefusalLaws.{StateOk, state-ok, send-ok}
 use Rattle.sender.proofs.SendLaws.{group-mode, group-role}
 use Rattle.sender.proofs.StateLaws.{can-send, state-after, Whole, groups-accepted}
-use Rattle.sender.proofs.JoinLaws.{length-grouped, Accepted, accepted-call, numbers-met}
+use Rattle.sender.proofs.JoinLaws.{length-grouped, accepted-call, numbers-met}
 
 -- THE POINTS STAND AS THEY ARE SENT
 
