@@ -11,7 +11,7 @@ use lib.ListN.{length, getD, set, drop, length-drop}
 use lib.Seq.{sets}
 use Rattle.line.specs.declared.Point.{Point}
 use Rattle.deciding.specs.declared.Decision.{Decision}
-use Rattle.deciding.specs.declared.Decision.the-variants.{State, Origin, NoSector}
+use Rattle.deciding.specs.declared.Decision.the-variants.{State, Origin}
 use Rattle.line.specs.Table.{every}
 use Rattle.line.specs.Mode.{isState, face, capacity}
 use Rattle.line.specs.Point.{at, pairs, coordinateIn, inRange, coordinatesIn, isOrigin}
@@ -25,7 +25,6 @@ use Rattle.line.specs.Refusal.{need, accepted}
 use Rattle.line.proofs.RefusalLaws.{need-met, need-rest, need-intro, next-first, next-rest, or-some}
 use Rattle.line.proofs.TableLaws.{and-left, and-right, and-intro, is-true}
 use Rattle.line.proofs.PointLaws.{pairs-step, pairs-end, pairs-length}
-use Rattle.deciding.proofs.SectorLaws.{never-no-sector}
 use Rattle.deciding.proofs.RingLaws.{looked-up, origin-none}
 use Rattle.scrambler.specs.declared.Register.{Register}
 use Rattle.scrambler.specs.declared.Descrambled.{Descrambled}
@@ -35,9 +34,9 @@ use Rattle.scrambler.proofs.GroupLaws.{descrambled-small, after-full}
 use Rattle.receiver.specs.declared.Reference.{Reference}
 use Rattle.receiver.specs.declared.Reference.the-variants.{Nothing as none, State as some}
 use Rattle.receiver.specs.declared.Receiver.{Receiver}
-use Rattle.receiver.specs.Receiver.{receiver, point, Answer, refused, lost, fieldsOk, stateRefusal, inSector, hasRoom, eventRefusal, refusal, stateAnswer, pointAnswer, eventAnswer, answer, placeAfter, forgotten, stateLine, stateNext, pointNext, eventNext, next}
+use Rattle.receiver.specs.Receiver.{receiver, point, Answer, refused, lost, fieldsOk, stateRefusal, inSector, hasRoom, eventRefusal, refusal, stateAnswer, pointAnswer, eventAnswer, answer, forgotten, stateLine, stateNext, pointNext, eventNext, next}
 use Rattle.receiver.specs.Calls.{after, EachAccepted, Heard, answers}
-use Rattle.receiver.proofs.OutcomeLaws.{next-placed}
+use Rattle.receiver.proofs.OutcomeLaws.{in-a-sector, accepted-placed}
 use Rattle.receiver.proofs.CallLaws.{accepted-valid, accepted-off, handed-back-passes, same-next, heard-accepted, heard-all}
 use Rattle.receiver.proofs.TurnLaws.{bits-group}
 use Rattle.bulk.specs.declared.Block.{Block}
@@ -60,10 +59,6 @@ module _ (s : Receiver) (p : Point) (z : refusal s (point p) ≡ 0) where
       let r : T (leb (s .place .0 + 1) 4294967295) = need-met (hasRoom s 1) 15 0 (need-rest (inSector (decide (s .mode) p)) 9 _ (need-rest (inRange p) 7 _ own-refusal)) in
       let l : s .place .0 + 1 ≤ 4294967295 = leb-true _ _ (is-true _ r) in
       omega arith
-
-  place-next : next s (point p) .place .0 ≡ s .place .0 + 1
-  unfolding placeAfter
-  place-next = next-placed s (point p) ∙ ap (λ (n : ℕ). accepted n (s .place .0 + 1) (s .place .0)) z
 
   abbrev taken : Step
   taken = step (answer s (point p)) (next s (point p))
@@ -121,19 +116,11 @@ plain-fits m role g h d e = subst (λ (c : Descrambled). (c .plain < 16) × (c .
 
 -- ALL POINTS
 
-in-a-sector : (m : ℕ) (p : Point) → T (inSector (decide m p))
-in-a-sector m p = go (decide m p) refl
-  where
-    go : (d : Decision) → decide m p ≡ d → T (inSector d)
-    go (State y) e = tt
-    go Origin e = tt
-    go NoSector e = absurd (never-no-sector m p e)
-
 pub each-in-a-sector : (m : ℕ) (ps : List Point) → T (every (λ p. inSector (decide m p)) ps)
 each-in-a-sector m [] = tt
 each-in-a-sector m (p ∷ ps) = and-intro (inSector (decide m p)) _ (in-a-sector m p) (each-in-a-sector m ps)
 
-accepts : (s : Receiver) (p : Point) → stateRefusal s ≡ 0 → T (inRange p) → s .place .0 < 4294967295 → refusal s (point p) ≡ 0
+pub accepts : (s : Receiver) (p : Point) → stateRefusal s ≡ 0 → T (inRange p) → s .place .0 < 4294967295 → refusal s (point p) ≡ 0
 unfolding refusal eventRefusal hasRoom
 accepts s p z i l =
     rw z (need-intro (inRange p) 8 _ i (need-intro (inSector (decide (s .mode) p)) 10 _ (in-a-sector (s .mode) p) (rw (le-leb (s .place .0 + 1) 4294967295 (omega arith)))))
@@ -143,7 +130,7 @@ pub accepted-one-by-one : (s : Receiver) (ps : List Point) → stateRefusal s �
 accepted-one-by-one s [] z i l = tt
 accepted-one-by-one s (p ∷ ps) z i l =
     let a : refusal s (point p) ≡ 0 = accepts s p z (and-left (inRange p) _ i) (omega arith) in
-    let q = place-next s p a in
+    let q = accepted-placed s (point p) a in
     (a, accepted-one-by-one (next s (point p)) ps (handed-back-passes s (point p) a) (and-right (inRange p) _ i) (omega arith))
 
 -- ONE BY ONE
@@ -200,7 +187,7 @@ each-in-range s (p ∷ ps) f = and-intro (inRange p) _ (need-met (inRange p) 7 _
 pub each-has-place : (s : Receiver) (ps : List Point) → s .place .0 ≤ 4294967295 → EachAccepted s (map point ps) → s .place .0 + length ps ≤ 4294967295
 each-has-place s [] l f = omega arith
 each-has-place s (p ∷ ps) l f =
-    let q = place-next s p (f .0) in
+    let q = accepted-placed s (point p) (f .0) in
     let h = has-place s p (f .0) in
     let i = each-has-place (next s (point p)) ps (omega arith) (f .1) in
     omega arith

@@ -28,7 +28,7 @@ use Rattle.line.specs.Refusal.{modeRefusal}
 use Rattle.receiver.specs.Receiver.{Event, point, gap, freshReceiver, stateRefusal, inSector, refusal, stateNext, pointNext, eventNext, next}
 use Rattle.receiver.specs.Outcome.{stateOutcome, pointOutcome, eventOutcome, outcome, started}
 use Rattle.receiver.specs.Calls.{after}
-use Rattle.receiver.proofs.OutcomeLaws.{in-sector}
+use Rattle.receiver.proofs.OutcomeLaws.{in-a-sector}
 use Rattle.bulk.specs.declared.Block.{Block}
 use Rattle.bulk.specs.declared.Block.the-variants.{Refused as NotTaken, Taken}
 use Rattle.bulk.specs.Block.{lineByte, plainByte, answersTo, blockRefusal, block, lineBytes, plainBytes}
@@ -124,12 +124,12 @@ module _ (s : Receiver) where
 
   event-number : (e : Event) → refusal s e ≡ 0 → numberOut (eventOutcome s e) ≡ 0
   unfolding eventOutcome refusal
-  event-number (point p) z = point-number (decide (s .mode) p) (in-sector s p (next-rest (stateRefusal s) _ z))
+  event-number (point p) z = point-number (decide (s .mode) p) (in-a-sector (s .mode) p)
   event-number (gap n) z = refl
 
   event-after : (e : Event) (b : List ℕ) → refusal s e ≡ 0 → stateAfter (eventOutcome s e) b ≡ sets b 0 (receiverOut (eventNext s e))
   unfolding eventOutcome eventNext refusal
-  event-after (point p) b z = point-after (decide (s .mode) p) b (in-sector s p (next-rest (stateRefusal s) _ z))
+  event-after (point p) b z = point-after (decide (s .mode) p) b (in-a-sector (s .mode) p)
   event-after (gap n) b z = refl
 
   -- the number, the state's bytes and the answer's bytes of an outcome

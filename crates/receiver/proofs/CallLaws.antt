@@ -3,7 +3,7 @@
 use Prim.Native.Nat.{ℕ, zero, suc, _+_}
 use mathlib.Core.Path.{_≡_, refl, _∙_, ap}
 use mathlib.Core.Bool.{Bool, true, false}
-use mathlib.Core.List.{List, [], _∷_}
+use mathlib.Core.List.{List, [], _∷_, _++_}
 use native.Mathlib.Omega.{arith}
 use lib.Dec.{T, eqb, eqb→eq}
 use lib.Pow.{pow-pos}
@@ -14,7 +14,7 @@ use Rattle.line.specs.Mode.{isMode, isRole, isState, width, face}
 use Rattle.line.specs.Point.{isOrigin}
 use Rattle.deciding.specs.Decide.{decide}
 use Rattle.coding.specs.Code.{group}
-use Rattle.line.specs.Refusal.{orNext, accepted}
+use Rattle.line.specs.Refusal.{need, orNext, accepted}
 use Rattle.line.proofs.RefusalLaws.{need-met, need-rest, need-intro, next-first, next-rest}
 use Rattle.line.proofs.TableLaws.{and-left, and-right, and-intro}
 use Rattle.scrambler.specs.declared.Register.{Register}
@@ -25,8 +25,9 @@ use Rattle.receiver.specs.declared.Reference.{Reference}
 use Rattle.receiver.specs.declared.Reference.the-variants.{Nothing as none, State as some}
 use Rattle.receiver.specs.declared.Receiver.{Receiver}
 use Rattle.line.specs.Refusal.{modeRefusal}
-use Rattle.receiver.specs.Receiver.{freshReceiver, Event, point, gap, isFresh, fieldsOk, stateRefusal, refusal, refused, reference, lost, lineBits, stateAnswer, pointAnswer, eventAnswer, answer, intervals, placeAfter, forgotten, stateLine, stateNext, pointNext, eventNext, next}
+use Rattle.receiver.specs.Receiver.{freshReceiver, Event, point, gap, isFresh, fieldsOk, stateRefusal, refusal, refused, lost, lineBits, stateAnswer, pointAnswer, eventAnswer, answer, intervals, placeAfter, forgotten, stateLine, stateNext, pointNext, eventNext, next}
 use Rattle.receiver.specs.Calls.{after, EachAccepted, Heard, heard, events, heardIntervals}
+use Rattle.receiver.specs.Laws.{StatesPass, GapForgets, PlaceAfter}
 use Rattle.coding.proofs.DecideLaws.{Off, decide-off}
 use Rattle.receiver.proofs.OutcomeLaws.{next-placed}
 
@@ -51,12 +52,8 @@ valid s z =
 pub no-refusal : (s : Receiver) → Valid s → stateRefusal s ≡ 0
 unfolding stateRefusal modeRefusal
 no-refusal s v =
-    or-none _ _ (need-intro (isMode (s .mode)) 1 _ (v .mode) (need-intro (isRole (s .mode) (s .role)) 2 0 (v .role) refl))
-    (need-intro (fieldsOk (s .mode) (s .reference) (s .line)) 4 0 (v .fields) refl)
-  where
-    or-none : (a b : ℕ) → a ≡ 0 → b ≡ 0 → orNext a b ≡ 0
-    or-none zero b p q = q
-    or-none (suc a) b p q = p
+    ap (λ (n : ℕ). orNext n (need (fieldsOk (s .mode) (s .reference) (s .line)) 4 0)) (need-intro (isMode (s .mode)) 1 _ (v .mode) (need-intro (isRole (s .mode) (s .role)) 2 0 (v .role) refl))
+    ∙ need-intro (fieldsOk (s .mode) (s .reference) (s .line)) 4 0 (v .fields) refl
 
 -- an accepted call shows that its state met them
 pub accepted-valid : (s : Receiver) (e : Event) → refusal s e ≡ 0 → Valid s
@@ -120,20 +117,21 @@ module _ (s : Receiver) (v : Valid s) where
       go zero = event-valid e
       go (suc n) = v
 
--- (a) the state that an accepted call hands back passes 1, 2 and 4
 pub handed-back-passes : (s : Receiver) (e : Event) → refusal s e ≡ 0 → stateRefusal (next s e) ≡ 0
 handed-back-passes s e z = no-refusal (next s e) (next-valid s (accepted-valid s e z) e)
 
-pub fresh-passes : (m role : ℕ) → modeRefusal m role ≡ 0 → stateRefusal (freshReceiver m role) ≡ 0
+fresh-passes : (m role : ℕ) → modeRefusal m role ≡ 0 → stateRefusal (freshReceiver m role) ≡ 0
 unfolding freshReceiver stateRefusal fieldsOk isFresh
 fresh-passes m role z = rw z
 
-pub after-passes : (s : Receiver) (es : List Event) → stateRefusal s ≡ 0 → stateRefusal (after s es) ≡ 0
+after-passes : (s : Receiver) (es : List Event) → stateRefusal s ≡ 0 → stateRefusal (after s es) ≡ 0
 after-passes s [] z = z
 after-passes s (e ∷ es) z = after-passes (next s e) es (no-refusal (next s e) (next-valid s (valid s z) e))
 
--- (b) a gap forgets reference and line bits, the origin's too
-pub gap-forgets : (s : Receiver) (e : Event) (n : ℕ) → answer s e ≡ lost n → (next s e .reference ≡ none) × (next s e .line ≡ fresh)
+pub states-pass : StatesPass
+states-pass = record { fresh-passes = fresh-passes; handed-back-passes = handed-back-passes; after-passes = after-passes }
+
+pub gap-forgets : GapForgets
 unfolding answer next stateAnswer pointAnswer eventAnswer pointNext eventNext forgotten
 gap-forgets s e n q = go (refusal s e) q
   where
@@ -154,8 +152,7 @@ gap-forgets s e n q = go (refusal s e) q
     go zero a = of-event e a
     go (suc k) a = let z : _≡_ {A = ℕ} 0 1 = cc in absurd (omega arith)
 
--- (c) the place after a list of calls is the start's and the intervals of the accepted calls
-pub place-after : (s : Receiver) (es : List Event) → after s es .place .0 ≡ s .place .0 + heardIntervals (heard s es)
+pub place-after : PlaceAfter
 place-after s [] = omega arith
 place-after s (e ∷ es) =
     place-after (next s e) es ∙ ap (λ (n : ℕ). n + heardIntervals (heard (next s e) es)) (next-placed s e)
@@ -166,6 +163,19 @@ place-after s (e ∷ es) =
     one zero p x xs = omega arith
     one (suc n) p x xs = refl
 
+-- one list after another
+pub after-append : (s : Receiver) (xs ys : List Event) → after s (xs ++ ys) ≡ after (after s xs) ys
+after-append s [] ys = refl
+after-append s (e ∷ es) ys = after-append (next s e) es ys
+
+pub heard-append : (s : Receiver) (xs ys : List Event) → heard s (xs ++ ys) ≡ heard s xs ++ heard (after s xs) ys
+heard-append s [] ys = refl
+heard-append s (e ∷ es) ys = go (refusal s e) (record { event = e; answered = answer s e }) _ _ _ (heard-append (next s e) es ys)
+  where
+    go : (n : ℕ) (x : Heard) (xs ys zs : List Heard) → xs ≡ ys ++ zs → accepted n (x ∷ xs) xs ≡ accepted n (x ∷ ys) ys ++ zs
+    go zero x xs ys zs q = ap (λ (l : List Heard). x ∷ l) q
+    go (suc n) x xs ys zs q = q
+
 -- an accepted call is heard; where no call is refused all are, in order
 pub heard-accepted : (s : Receiver) (e : Event) (es : List Event) → refusal s e ≡ 0 → heard s (e ∷ es) ≡ record { event = e; answered = answer s e } ∷ heard (next s e) es
 heard-accepted s e es z = ap (λ (n : ℕ). accepted n (record { event = e; answered = answer s e } ∷ heard (next s e) es) (heard (next s e) es)) z
@@ -174,7 +184,7 @@ pub heard-all : (s : Receiver) (es : List Event) → EachAccepted s es → event
 heard-all s [] f = refl
 heard-all s (e ∷ es) f = ap events (heard-accepted s e es (f .0)) ∙ ap (λ (l : List Event). e ∷ l) (heard-all (next s e) es (f .1))
 
--- (d) mode and role stay
+-- mode and role stay
 abbrev pub Same : Receiver → Receiver → Type 0
 Same s t = (t .mode ≡ s .mode) × (t .role ≡ s .role)
 

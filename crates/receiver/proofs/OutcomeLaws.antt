@@ -11,15 +11,15 @@ use lib.Dec.{T, eqb}
 use Rattle.line.specs.declared.Point.{Point}
 use Rattle.deciding.specs.declared.Decision.{Decision}
 use Rattle.deciding.specs.declared.Decision.the-variants.{State, Origin, NoSector}
-use Rattle.line.specs.Mode.{isMode, isRole, isState, width, face}
+use Rattle.line.specs.Mode.{isState, width, face}
 use Rattle.line.specs.Point.{at, inRange}
 use Rattle.deciding.specs.Decide.{decide}
 use Rattle.coding.specs.Code.{group}
 use Rattle.line.specs.Refusal.{need, orNext, accepted}
-use Rattle.line.proofs.RefusalLaws.{need-met, need-rest, next-rest, or-some}
+use Rattle.line.proofs.RefusalLaws.{or-some}
+use Rattle.deciding.proofs.SectorLaws.{never-no-sector}
 use Rattle.scrambler.specs.declared.Register.{Register}
 use Rattle.scrambler.specs.declared.Descrambled.{Descrambled}
-use Rattle.scrambler.specs.Bits.{bits}
 use Rattle.scrambler.specs.Register.{fresh, registerOk}
 use Rattle.scrambler.specs.Group.{descrambled}
 use Rattle.scrambler.proofs.GroupLaws.{group-read}
@@ -33,6 +33,15 @@ use Rattle.receiver.specs.declared.Started.the-variants.{Refused as NotS
 use Rattle.line.specs.Refusal.{modeRefusal}
 use Rattle.receiver.specs.Receiver.{receiver, freshReceiver, Event, point, gap, isFresh, fieldsOk, stateRefusal, inSector, hasRoom, eventRefusal, refusal, refused, decoded, lineBits, stateAnswer, pointAnswer, eventAnswer, answer, intervals, placeAfter, forgotten, stateLine, stateNext, pointNext, eventNext, next}
 use Rattle.receiver.specs.Outcome.{answerOf, stateOf, Told, groupOf, stateOutcome, gapOutcome, pointOutcome, eventOutcome, outcome, ifRoom, Made, started}
+
+-- number 10 has no point that meets it
+pub in-a-sector : (m : ℕ) (p : Point) → T (inSector (decide m p))
+in-a-sector m p = go (decide m p) refl
+  where
+    go : (d : Decision) → decide m p ≡ d → T (inSector d)
+    go (State y) e = tt
+    go Origin e = tt
+    go NoSector e = absurd (never-no-sector m p e)
 
 -- WHAT AN OUTCOME SAYS
 
@@ -70,21 +79,16 @@ module _ (s : Receiver) where
   event-left (point p) = point-left (decide (s .mode) p)
   event-left (gap n) = refl
 
-  -- an accepted point is not in no sector
-  pub in-sector : (p : Point) → eventRefusal s (point p) ≡ 0 → T (inSector (decide (s .mode) p))
-  unfolding eventRefusal
-  in-sector p z = need-met (inSector (decide (s .mode) p)) 9 _ (need-rest (inRange p) 7 _ z)
-
   point-placed : (d : Decision) → T (inSector d) → pointNext s d .place .0 ≡ s .place .0 + 1
   unfolding pointNext stateNext forgotten
   point-placed (State y) t = refl
   point-placed Origin t = refl
   point-placed NoSector t = absurd t
 
-  pub event-placed : (e : Event) → refusal s e ≡ 0 → eventNext s e .place .0 ≡ s .place .0 + intervals e
-  unfolding eventNext refusal forgotten
-  event-placed (point p) z = point-placed (decide (s .mode) p) (in-sector p (next-rest (stateRefusal s) _ z))
-  event-placed (gap n) z = refl
+  event-placed : (e : Event) → eventNext s e .place .0 ≡ s .place .0 + intervals e
+  unfolding eventNext forgotten
+  event-placed (point p) = point-placed (decide (s .mode) p) (in-a-sector (s .mode) p)
+  event-placed (gap n) = refl
 
   answered : (e : Event) (n : ℕ) → answerOf (width (s .mode)) (accepted n (eventOutcome s e) (Refused n)) ≡ accepted n (eventAnswer s e) (refused n)
   answered e zero = event-answered e
@@ -94,14 +98,18 @@ module _ (s : Receiver) where
   left e zero = event-left e
   left e (suc n) = refl
 
-  placed : (e : Event) (n : ℕ) → refusal s e ≡ n → accepted n (eventNext s e) s .place .0 ≡ accepted n (s .place .0 + intervals e) (s .place .0)
-  placed e zero z = event-placed e z
-  placed e (suc n) z = refl
+  placed : (e : Event) (n : ℕ) → accepted n (eventNext s e) s .place .0 ≡ accepted n (s .place .0 + intervals e) (s .place .0)
+  placed e zero = event-placed e
+  placed e (suc n) = refl
 
   -- the place of the state after an event is the place after it
   pub next-placed : (e : Event) → next s e .place .0 ≡ placeAfter s e
   unfolding next placeAfter
-  next-placed e = placed e (refusal s e) refl
+  next-placed e = placed e (refusal s e)
+
+  pub accepted-placed : (e : Event) → refusal s e ≡ 0 → next s e .place .0 ≡ s .place .0 + intervals e
+  unfolding placeAfter
+  accepted-placed e z = next-placed e ∙ ap (λ (n : ℕ). accepted n (s .place .0 + intervals e) (s .place .0)) z
 
   pub told : (e : Event) → Told s e (outcome s e)
   unfolding outcome answer next
@@ -165,9 +173,9 @@ module _ (s : Receiver) (o : Reference) (y : ℕ) (t : Receiver) (b : s .place .
   bits-law x g d is e q r = rw (r, q, e, is) (room-some s 1 _ b k)
 
 -- a refused event, and an accepted one
-refused-by : (r : Outcome) (f n : ℕ) → f ≡ n → (f ≡ 0 → ⊥) → Refused f ≡ accepted n r (Refused n)
-refused-by r f zero e h = absurd (h e)
-refused-by r f (suc n) e h = ap Refused e
+refused-by : {A : Type 0} (numbered : ℕ → A) (r : A) (f n : ℕ) → f ≡ n → (f ≡ 0 → ⊥) → numbered f ≡ accepted n r (numbered n)
+refused-by numbered r f zero e h = absurd (h e)
+refused-by numbered r f (suc n) e h = ap numbered e
 
 last-room : (b : Bool) (r : Outcome) → cond b r (Refused 16) ≡ accepted (need b 16 0) r (Refused (need b 16 0))
 last-room true r = refl
@@ -176,7 +184,7 @@ last-room false r = refl
 module _ (s : Receiver) (f : ℕ) (a : f ≡ stateRefusal s) where
   pub outcome-fault : (e : Event) → (f ≡ 0 → ⊥) → Refused f ≡ outcome s e
   unfolding outcome refusal
-  outcome-fault e h = refused-by (eventOutcome s e) f (orNext (stateRefusal s) (eventRefusal s e)) (a ∙ or-some (stateRefusal s) _ (λ z. h (a ∙ z))) h
+  outcome-fault e h = refused-by Refused (eventOutcome s e) f (orNext (stateRefusal s) (eventRefusal s e)) (a ∙ or-some (stateRefusal s) _ (λ z. h (a ∙ z))) h
 
   module _ (z : f ≡ 0) where
     pub gap-none : (n : ℕ) → n < 1 → Refused 9 ≡ outcome s (gap n)
@@ -234,11 +242,7 @@ module _ (m role f : ℕ) (e : f ≡ modeRefusal m role) where
 
   pub started-fault : (f ≡ 0 → ⊥) → (NotStarted f ≡ started m role) × Made m role (NotStarted f)
   unfolding started
-  started-fault h = both-started (NotStarted f) (go (modeRefusal m role) e)
-    where
-      go : (n : ℕ) → f ≡ n → NotStarted f ≡ accepted n (Ready (freshReceiver m role)) (NotStarted n)
-      go zero q = absurd (h q)
-      go (suc n) q = ap NotStarted q
+  started-fault h = both-started (NotStarted f) (refused-by NotStarted (Ready (freshReceiver m role)) f (modeRefusal m role) e h)
 
   pub started-ready : (h : Register) → f ≡ 0 → h ≡ fresh → (Ready (receiver m role none h 0) ≡ started m role) × Made m role (Ready (receiver m role none h 0))
   unfolding started freshReceiver

@@ -2,31 +2,33 @@
 use Prim.Native.Nat.{ℕ, zero, suc, _+_}
 use mathlib.Core.Path.{_≡_, refl, sym, _∙_, ap, subst}
 use mathlib.Core.Bool.{Bool, true, false, not}
-use mathlib.Core.List.{List, [], _∷_, _++_}
+use mathlib.Core.List.{List, [], _∷_, _++_, map}
 use lib.Dec.{T}
+use lib.ListN.{length}
+use Rattle.coding.specs.Code.{group}
 use Rattle.line.specs.Table.{every}
 use Rattle.line.specs.declared.Point.{Point}
 use Rattle.deciding.specs.declared.Decision.{Decision}
 use Rattle.deciding.specs.declared.Decision.the-variants.{State, Origin, NoSector}
-use Rattle.line.specs.Mode.{isMode, isState}
+use Rattle.line.specs.Mode.{isMode, isState, width, face}
 use Rattle.line.specs.Point.{isOrigin}
 use Rattle.deciding.specs.Decide.{decide}
 use Rattle.line.specs.Refusal.{accepted}
-use Rattle.line.proofs.RefusalLaws.{next-rest}
 use Rattle.line.proofs.TableLaws.{and-intro}
 use Rattle.scrambler.specs.declared.Register.{Register}
 use Rattle.scrambler.specs.Register.{pushes}
 use Rattle.scrambler.specs.Scramble.{Datum, descramble}
-use Rattle.scrambler.proofs.GroupLaws.{descramble-append}
+use Rattle.scrambler.proofs.BitLaws.{length-bits}
+use Rattle.scrambler.proofs.GroupLaws.{descramble-append, length-descramble}
 use Rattle.scrambler.proofs.RegisterLaws.{Ok}
 use Rattle.receiver.specs.declared.Reference.the-variants.{State as some}
 use Rattle.receiver.specs.declared.Receiver.{Receiver}
-use Rattle.receiver.specs.Receiver.{receiver, Event, point, gap, stateRefusal, inSector, refusal, refused, decoded, lineBits, stateAnswer, pointAnswer, eventAnswer, answer, stateLine, stateNext, pointNext, eventNext, next}
+use Rattle.receiver.specs.Receiver.{receiver, Event, point, gap, inSector, refusal, refused, decoded, lineBits, stateAnswer, pointAnswer, eventAnswer, answer, stateLine, stateNext, pointNext, eventNext, next}
 use Rattle.line.specs.Table.{All}
-use Rattle.receiver.specs.Calls.{Heard, heard, IsPoint, decidedAs, decidedStates, linesHeard, row, dataHeard}
+use Rattle.receiver.specs.Calls.{Heard, heard, IsPoint, decidedAs, dataOf, decidedStates, linesHeard, row, dataHeard}
 use Rattle.receiver.specs.Turn.{lines}
 use Rattle.coding.proofs.DecideLaws.{Off}
-use Rattle.receiver.proofs.OutcomeLaws.{in-sector}
+use Rattle.receiver.proofs.OutcomeLaws.{in-a-sector}
 use Rattle.receiver.proofs.CallLaws.{Valid, accepted-valid, accepted-off, line-register}
 
 -- the state that an accepted point off the origin is decided as
@@ -36,8 +38,7 @@ pub record Decided (m : ℕ) (p : Point) : Type 0 where
   pub of-mode : T (isState m state)
 
 pub decided : (s : Receiver) (p : Point) → refusal s (point p) ≡ 0 → T (not (isOrigin p)) → Decided (s .mode) p
-unfolding refusal
-decided s p z t = go (decide (s .mode) p) refl (accepted-off s p z (not-so (isOrigin p) t)) (in-sector s p (next-rest (stateRefusal s) _ z))
+decided s p z t = go (decide (s .mode) p) refl (accepted-off s p z (not-so (isOrigin p) t)) (in-a-sector (s .mode) p)
   where
     not-so : (b : Bool) → T (not b) → b ≡ false
     not-so true t = absurd t
@@ -51,6 +52,7 @@ decided s p z t = go (decide (s .mode) p) refl (accepted-off s p z (not-so (isOr
 -- what points heard after a reference x, with the register h, say
 pub record Follows (m role x : ℕ) (h : Register) (xs : List Heard) : Type 0 where
   pub states : T (every (isState m) (decidedStates m xs))
+  pub sized : All (λ (g : List Datum). length g ≡ width m) (map (λ (y : Heard). dataOf (y .answered)) xs)
   pub lines-are : linesHeard xs ≡ lines m x (decidedStates m xs)
   pub data-are : dataHeard xs ≡ descramble m role h (row (lines m x (decidedStates m xs)))
 
@@ -65,6 +67,7 @@ module _ (m role : ℕ) where
       let y : ℕ = d .state in
       record {
         states = rw (d .is) (and-intro (isState m y) (every (isState m) (decidedStates m xs)) (d .of-mode) (f .states));
+        sized = (length-descramble m role h (lineBits m x y) ∙ length-bits (width m) (group m (face m x) y), f .sized);
         lines-are = rw (d .is) (ap (λ (l : List (List ℕ)). lineBits m x y ∷ l) (f .lines-are));
         data-are = rw (d .is) (ap (λ (l : List Datum). descramble m role h (lineBits m x y) ++ l) (f .data-are)
             ∙ sym (descramble-append m role h (lineBits m x y) (row (lines m y (decidedStates m xs)))));
@@ -108,8 +111,8 @@ follow-step m role x h place (gap n) es ih zero z a = absurd (a .0)
 follow-step m role x h place (point p) es ih (suc n) z a = ih x h place a
 follow-step m role x h place (gap k) es ih (suc n) z a = ih x h place a
 
-follow : (m role : ℕ) (es : List Event) → Followed m role es
-follow m role [] x h place a = record { states = tt; lines-are = refl; data-are = refl }
+pub follow : (m role : ℕ) (es : List Event) → Followed m role es
+follow m role [] x h place a = record { states = tt; sized = tt; lines-are = refl; data-are = refl }
 follow m role (e ∷ es) x h place a =
     let s : Receiver = receiver m role (some x) h place in
     let q = heard-by s e es in

@@ -12,7 +12,7 @@ use Rattle.scrambler.specs.Scramble.{Datum}
 use Rattle.receiver.specs.declared.Receiver.{Receiver}
 use Rattle.receiver.specs.Receiver.{Event, point, gap, Answer, refused, reference, decoded, lost, refusal, answer, intervals, next}
 
--- "each call gets what the last one handed back, after a refusal what that one had got"
+-- "Each call gets what the last one handed back or left, after a refusal what that one had got"
 abbrev pub after : Receiver → List Event → Receiver
 after s [] = s
 after s (e ∷ es) = after (next s e) es
@@ -26,7 +26,7 @@ pub record Heard : Type 0 where
   pub event : Event
   pub answered : Answer
 
--- "a call is accepted when it is not refused": the accepted calls of a list, each with its answer
+-- "A call is accepted when it is not refused.": the accepted calls of a list, each with its answer
 abbrev pub heard : Receiver → List Event → List Heard
 heard s [] = []
 heard s (e ∷ es) =

@@ -1,5 +1,5 @@
--- Document 01, "Forms we want to see": "where an answer is an enum, a definition gives this paper's number and values for each of
--- the enum's cases". What the public functions hand back, and what each case of it says.
+-- Document 01, "Forms we want to see": "Where an answer is an enum, a definition gives this paper's number and values for each of
+-- the enum's cases." What the public functions hand back, and what each case of it says.
 use Prim.Native.Nat.{ℕ}
 use mathlib.Core.Path.{_≡_}
 use mathlib.Core.Bool.{cond}
@@ -43,7 +43,7 @@ stateOf s (Gap n t) = t
 abbrev pub placeOf : Receiver → Outcome → ℕ
 placeOf s r = stateOf s r .place .0
 
--- "answer, place and state after an event are each one equation with these rules"
+-- "Answer, place and state after an event are each one equation with these rules."
 pub record Told (s : Receiver) (e : Event) (r : Outcome) : Type 0 where
   pub answer-is : answerOf (width (s .mode)) r ≡ answer s e
   pub place-is : placeOf s r ≡ placeAfter s e

@@ -23,7 +23,7 @@ abbrev pub receiver : ℕ → ℕ → Reference → Register → ℕ → Receive
 receiver m role reference line place =
     record { mode = m; role = role; reference = reference; line = line; place = record { 0 = place } }
 
--- "a fresh one has no reference, no line bits, place 0"
+-- "A fresh one has no reference, no line bits, place 0."
 unfoldable pub freshReceiver : ℕ → ℕ → Receiver
 freshReceiver m role = receiver m role none fresh 0
 
@@ -91,7 +91,7 @@ unfoldable pub eventAnswer : Receiver → Event → Answer
 eventAnswer s (point p) = pointAnswer s (decide (s .mode) p)
 eventAnswer s (gap n) = lost n
 
--- "a refusal gives back its number alone"
+-- "A refusal gives back its number alone"
 unfoldable pub answer : Receiver → Event → Answer
 answer s e = accepted (refusal s e) (eventAnswer s e) (refused (refusal s e))
 

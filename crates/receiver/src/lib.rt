@@ -1,7 +1,6 @@
 // The receiver: its state, its answers, and the points and gaps that it takes. Document 01, "Receiver" and "Refusals".
 ghost use mathlib.Core.Path.{_≡_};
 ghost use Rattle.line.specs.Point.{at};
-ghost use Rattle.line.specs.Refusal.{modeRefusal};
 ghost use Rattle.receiver.specs.Receiver.{receiver, point, gap, fieldsOk, stateRefusal};
 ghost use Rattle.receiver.specs.Outcome.{Told, stateOutcome, gapOutcome, outcome, ifRoom, Made, started};
 use scrambler::BitCount;

@@ -1,47 +1,37 @@
 -- Data points as they are handed on, and the bits that a receiver reads of them. Assumes nothing.
-use Prim.Native.Nat.{ℕ, zero, suc, _+_, _*_, _-_, _<_, _≤_}
+use Prim.Native.Nat.{ℕ, suc, _+_, _*_, _-_, _<_, _≤_}
 use mathlib.Core.Path.{_≡_, refl, sym, _∙_, ap, ap₂, subst, subst₂}
-use mathlib.Core.Bool.{Bool, true, false, cond}
 use mathlib.Core.List.{List, [], _∷_, _++_, map, map-append, append-assoc}
 use mathlib.Core.Logic.{⊎-elim}
 use native.Mathlib.Omega.{arith}
 use borrow.Author.Tests.{eq-eqb}
-use lib.Dec.{T, eqb, leb, leb→le}
+use lib.Dec.{leb, leb→le}
 use lib.IntN.{ℤ, pos}
 use lib.ListN.{length, getD, take, drop, length-map, length-append}
 use lib.Seq.{sets, drop-at, take-at, drop-nil}
-use Rattle.line.proofs.RefusalLaws.{need-met, need-rest}
-use Rattle.deciding.specs.declared.Decision.{Decision}
-use Rattle.deciding.specs.declared.Decision.the-variants.{State, Origin, NoSector}
-use Rattle.line.specs.declared.Point.{Point}
-use Rattle.line.specs.Mode.{width, capacity, face}
-use Rattle.line.specs.Point.{at}
-use Rattle.deciding.specs.Decide.{decide, stateIn}
-use Rattle.coding.specs.Code.{group}
-use Rattle.scrambler.specs.declared.Register.{Register}
-use Rattle.scrambler.specs.Bits.{bits}
-use Rattle.scrambler.specs.Scramble.{Datum, settled, descramble}
+use Rattle.line.proofs.RefusalLaws.{need-met, need-rest, next-rest}
+use Rattle.line.specs.Mode.{width}
+use Rattle.deciding.specs.Decide.{stateIn}
+use Rattle.scrambler.specs.Scramble.{settled, descramble}
 use Rattle.receiver.specs.Receiver.{Event, point, gap}
-use Rattle.line.specs.Table.{All}
-use Rattle.receiver.specs.Calls.{Heard, decidedAs, decidedStates, row}
+use Rattle.receiver.specs.Calls.{Heard, decidedAs, row, events as heardEvents}
 use Rattle.receiver.specs.Turn.{lines}
 use Rattle.sender.specs.declared.Sender.{Sender}
 use Rattle.sender.specs.Calls.{DataPoint}
 use Rattle.sender.specs.Sender.{afterGroup}
-use Rattle.sender.proofs.SendLaws.{group-mode}
-use Rattle.sender.proofs.DataLaws.{Made, From, consecutive, statesOf, lineBits, given, Reads, from-reads}
+use Rattle.sender.proofs.DataLaws.{Made, From, consecutive, decided-made}
 use Rattle.store.specs.Layout as Stored
 use Rattle.octets.proofs.Sets.{getD-sets-in}
-use Rattle.line.specs.Refusal.{orNext}
 use Rattle.store.specs.Store.{events, refusal}
 use Rattle.store.specs.Reading.{numbers, readNumber, readCount, readResult}
 use Rattle.track.specs.Calls.{after, accepted}
 use Rattle.track.proofs.CallLaws.{Run, calls-law}
 use Rattle.resync.specs.Assured.{assuredPoint, dataFrom}
 use Rattle.resync.specs.DataPoints.{Consecutive, received, appended, eventIn, eventsIn, ReadBack, Handed, givenFrom}
-use Rattle.resync.specs.Demand as Demand
 use Rattle.resync.proofs.RowLaws.{drop-row, map-drop}
-use Rattle.resync.proofs.ReceivedLaws.{Received, data-any, enough}
+use Rattle.resync.proofs.ReceivedLaws.{data-any, enough}
+use Rattle.receiver.proofs.ShapeLaws.{Shape}
+use Rattle.resync.proofs.SenderLaws.{groupsOf, states-same, made-sized, data-given}
 
 -- READ BACK AS WRITTEN
 
@@ -81,10 +71,6 @@ events-read ns k (Stored.point p ∷ es) s =
 events-read ns k (Stored.lost n ∷ es) s =
     ap₂ _∷_ (three-in ns k (pos 2) (pos n) (pos 0) (numbers es) s) (events-read ns (k + 3) es (three-on ns k (pos 2) (pos n) (pos 0) (numbers es) s))
 
-or-rest : (a b : ℕ) → orNext a b ≡ 0 → b ≡ 0
-or-rest zero b e = e
-or-rest (suc a) b e = absurd (omega arith)
-
 -- what an accepted reading gives is the store's events
 reading-gives : (s : List ℕ) (lent : List ℤ) (offset : ℕ) → refusal s ≡ 0 → readNumber s (length lent) offset ≡ 0
     → eventsIn (readResult s lent offset) offset (readCount s (length lent) offset) ≡ map onLine (events s)
@@ -98,13 +84,13 @@ reading-gives s lent offset ok z =
     room z =
         unfold readNumber in
         (let y = need-rest (leb offset (length lent)) 6 _ z in
-        leb→le _ _ (need-met (leb (offset + 3 * length (events s)) (length lent)) 6 0 (or-rest (refusal s) _ y)))
+        leb→le _ _ (need-met (leb (offset + 3 * length (events s)) (length lent)) 6 0 (next-rest (refusal s) _ y)))
 
 on-line-points : (ds : List DataPoint) → map onLine (appended ds) ≡ received ds
 on-line-points [] = refl
 on-line-points (d ∷ ds) = ap (λ (es : List Event). point (d .point) ∷ es) (on-line-points ds)
 
--- "handed on as read" is "handed on as written"
+-- data points that were read back are those that were written
 pub handed-as-written : (ds : List DataPoint) (es : List Event) → Handed ds es → es ≡ received ds
 handed-as-written ds es = ⊎-elim (λ e. e) back
   where
@@ -132,51 +118,32 @@ from-sender : (m role : ℕ) (ds : List DataPoint) → Consecutive m role ds →
 from-sender m role ds c =
     subst₂ (λ (n r : ℕ). From n r ds) (c .mode-is) (c .role-is) (consecutive (c .sender) (c .calls) (c .earlier) ds (c .later) (c .are))
 
--- each was made from w bits
-made-sized : (m : ℕ) (s : Sender) (ds : List DataPoint) → s .mode ≡ m → Made s ds → All (λ (g : List ℕ). length g ≡ width m) (map (λ (d : DataPoint). d .bits) ds)
-made-sized m s [] e k = tt
-made-sized m s (d ∷ ds) e k = (k .1 ∙ ap width e, made-sized m (afterGroup s (d .bits)) ds (group-mode s (d .bits) ∙ e) (k .4))
-
-given-row : (ds : List DataPoint) → given ds ≡ row (map (λ (d : DataPoint). d .bits) ds)
-given-row [] = refl
-given-row (d ∷ ds) = ap (λ (l : List ℕ). d .bits ++ l) (given-row ds)
-
-drop-map : {A B : Type 0} (f : A → B) (n : ℕ) (xs : List A) → drop n (map f xs) ≡ map f (drop n xs)
-drop-map f n xs = sym (map-drop f n xs)
-
--- the decided states of the points that were handed on
-states-same : (m : ℕ) (xs : List Heard) (ds : List DataPoint) → Demand.events xs ≡ received ds → decidedStates m xs ≡ statesOf m ds
-states-same m [] [] e = refl
-states-same m [] (d ∷ ds) e = absurd (omega (arith, ap length e))
-states-same m (x ∷ xs) [] e = absurd (omega (arith, ap length e))
-states-same m (x ∷ xs) (d ∷ ds) e =
-    let e0 : x .event ≡ point (d .point) = cc in
-    let e1 : Demand.events xs ≡ received ds = cc in
-    ap₂ _∷_ (ap (decidedAs m) e0) (states-same m xs ds e1)
-
-row-lines : (m x : ℕ) (ys : List ℕ) → row (lines m x ys) ≡ lineBits m x ys
-row-lines m x [] = refl
-row-lines m x (y ∷ ys) = ap (λ (l : List ℕ). bits (width m) (group m (face m x) y) ++ l) (row-lines m y ys)
-
-pub sender-data : (m role : ℕ) (xs : List Heard) (ds : List DataPoint) → Received m role xs → Consecutive m role ds → Demand.events xs ≡ received ds
-    → dataFrom (assuredPoint m) xs ≡ map settled (givenFrom (assuredPoint m) ds)
-sender-data m role [] [] k c e = rw (drop-nil {A = Heard} (assuredPoint m - 1), drop-nil {A = DataPoint} (assuredPoint m - 1))
-sender-data m role [] (d ∷ ds) k c e = absurd (omega (arith, ap length e))
-sender-data m role (x ∷ xs) [] k c e = absurd (omega (arith, ap length e))
-sender-data m role (x ∷ xs) (d ∷ ds) k c e =
-    let f : From m role (d ∷ ds) = from-sender m role (d ∷ ds) c in
-    let r : Reads m role d ds = from-reads m role d ds f in
+-- the bits from the assured point on: the register is the sender's own after the first point
+sender-made : (s : Sender) (xs : List Heard) (ds : List DataPoint) → Shape (s .mode) (s .role) xs → Made s ds → heardEvents xs ≡ received ds
+    → dataFrom (assuredPoint (s .mode)) xs ≡ map settled (givenFrom (assuredPoint (s .mode)) ds)
+unfolding afterGroup
+sender-made s [] [] k c e = rw (drop-nil {A = Heard} (assuredPoint (s .mode) - 1), drop-nil {A = DataPoint} (assuredPoint (s .mode) - 1))
+sender-made s [] (d ∷ ds) k c e = absurd (omega (arith, ap length e))
+sender-made s (x ∷ xs) [] k c e = absurd (omega (arith, ap length e))
+sender-made s (x ∷ xs) (d ∷ ds) k c e =
+    let m : ℕ = s .mode in
+    let role : ℕ = s .role in
+    let t : Sender = afterGroup s (d .bits) in
     let p : ℕ = assuredPoint m in
-    let q = enough m (k .shape .0) in
+    let q = enough m (k .0) in
     let e0 : x .event ≡ point (d .point) = cc in
-    let e1 : Demand.events xs ≡ received ds = cc in
-    let g : row (lines m (decidedAs m (x .event)) (decidedStates m xs)) ≡ lineBits m (stateIn (decide m (d .point))) (statesOf m ds) =
-    row-lines m (decidedAs m (x .event)) (decidedStates m xs) ∙ ap₂ (lineBits m) (ap (decidedAs m) e0) (states-same m xs ds e1) in
-    let z : All (λ (h : List ℕ). length h ≡ width m) (map (λ (t : DataPoint). t .bits) ds) = made-sized m (f .sender) (d ∷ ds) (f .mode) (f .made-by) .1 in
-    data-any m role x xs k (r .line)
-    ∙ ap (λ (l : List ℕ). drop ((p - 2) * width m) (descramble m role (r .line) l)) g
-    ∙ ap (drop ((p - 2) * width m)) (r .reads)
-    ∙ drop-map settled ((p - 2) * width m) (given ds)
-    ∙ ap (λ (l : List ℕ). map settled (drop ((p - 2) * width m) l)) (given-row ds)
-    ∙ ap (map settled) (drop-row (width m) (p - 2) (map (λ (t : DataPoint). t .bits) ds) z ∙ ap row (drop-map (λ (t : DataPoint). t .bits) (p - 2) ds))
-    ∙ ap (λ (n : ℕ). map settled (row (map (λ (t : DataPoint). t .bits) (drop n (d ∷ ds))))) (let w : suc (p - 2) ≡ p - 1 = omega arith in w)
+    let e1 : heardEvents xs ≡ received ds = cc in
+    let x0 : decidedAs m (x .event) ≡ t .reference = ap (decidedAs m) e0 ∙ ap stateIn (decided-made s d ds c) in
+    data-any m role x xs k (t .line)
+    ∙ ap₂ (λ (y : ℕ) (ys : List ℕ). drop ((p - 2) * width m) (descramble m role (t .line) (row (lines m y ys)))) x0 (states-same m xs ds e1)
+    ∙ ap (drop ((p - 2) * width m)) (data-given t ds (c .4))
+    ∙ sym (map-drop settled ((p - 2) * width m) (row (groupsOf ds)))
+    ∙ ap (map settled) (drop-row (width m) (p - 2) (groupsOf ds) (made-sized t ds (c .4)) ∙ ap row (sym (map-drop (λ (t : DataPoint). t .bits) (p - 2) ds)))
+    ∙ ap (λ (n : ℕ). map settled (row (groupsOf (drop n (d ∷ ds))))) (let w : suc (p - 2) ≡ p - 1 = omega arith in w)
+
+pub sender-data : (m role : ℕ) (xs : List Heard) (ds : List DataPoint) → Shape m role xs → Consecutive m role ds → heardEvents xs ≡ received ds
+    → dataFrom (assuredPoint m) xs ≡ map settled (givenFrom (assuredPoint m) ds)
+sender-data m role xs ds k c e =
+    let f : From m role ds = from-sender m role ds c in
+    subst (λ (n : ℕ). dataFrom (assuredPoint n) xs ≡ map settled (givenFrom (assuredPoint n) ds)) (f .mode)
+    (sender-made (f .sender) xs ds (subst₂ (λ (n r : ℕ). Shape n r xs) (sym (f .mode)) (sym (f .role-is)) k) (f .made-by) e)

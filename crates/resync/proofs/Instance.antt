@@ -1,7 +1,6 @@
 -- Every premise of demand 3 can be met. Assumes nothing.
-use Prim.Native.Nat.{ℕ}
-use mathlib.Core.Path.{_≡_, refl, sym}
-use mathlib.Core.List.{List, [], _∷_, append-nil}
+use mathlib.Core.Path.{refl, sym}
+use mathlib.Core.List.{[], _∷_, append-nil}
 use lib.IntN.{pos}
 use lib.ListN.{replicate}
 use Rattle.line.specs.Table.{entry, rowFrom}

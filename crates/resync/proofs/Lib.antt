@@ -1,6 +1,9 @@
 pub mod RowLaws
 pub mod ReceivedLaws
+pub mod SenderLaws
 pub mod HandedLaws
 pub mod DemandProof
+pub mod RoundTrip
+pub mod CallLists
 pub mod Instance
 pub mod Bench

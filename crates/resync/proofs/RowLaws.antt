@@ -1,6 +1,6 @@
 -- Groups of one size in a row, and what R line bits make of two registers. Assumes nothing.
-use Prim.Native.Nat.{ℕ, zero, suc, _+_, _*_, _-_, _<_, _≤_}
-use mathlib.Core.Path.{_≡_, refl, sym, _∙_, ap, ap₂, subst}
+use Prim.Native.Nat.{ℕ, zero, suc, _+_, _*_, _-_, _≤_}
+use mathlib.Core.Path.{_≡_, refl, sym, _∙_, ap}
 use mathlib.Core.List.{List, [], _∷_, _++_, map}
 use native.Mathlib.Omega.{arith}
 use native.Mathlib.Decide.{decLe}
@@ -10,7 +10,7 @@ use lib.Seq.{drop-at, drop-nil, drop-append-add}
 use Rattle.line.specs.Mode.{capacity}
 use Rattle.scrambler.specs.declared.Register.{Register}
 use Rattle.scrambler.specs.Register.{push, pushes}
-use Rattle.scrambler.specs.Scramble.{Datum, descramble}
+use Rattle.scrambler.specs.Scramble.{descramble}
 use Rattle.scrambler.proofs.GroupLaws.{descramble-append, length-descramble}
 use Rattle.scrambler.proofs.RegisterLaws.{same-after, full-push}
 use Rattle.line.specs.Table.{All}

@@ -1,6 +1,6 @@
 -- Demand 3: the point from which on data bits are assured, and the data bits from a point on.
 use Prim.Native.Nat.{ℕ, _-_}
-use mathlib.Core.List.{List, [], _∷_}
+use mathlib.Core.List.{List}
 use lib.ListN.{drop}
 use Rattle.line.specs.Mode.{byMode}
 use Rattle.scrambler.specs.Scramble.{Datum, unsettled, settled}

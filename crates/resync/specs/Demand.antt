@@ -1,29 +1,27 @@
--- Demand 3, one statement about whole lists of calls.
+-- Demand 3: "ONE theorem over whole lists of calls, not one per call. It stays whole through every request." Its other sentences stand
+-- beside the clauses.
 use Prim.Native.Nat.{ℕ}
 use mathlib.Core.Path.{_≡_}
 use mathlib.Core.List.{List, map}
 use mathlib.Core.Logic.{_↔_, _⊎_}
 use lib.ListN.{length}
-use Rattle.scrambler.specs.Scramble.{Datum, settled}
+use Rattle.scrambler.specs.Scramble.{settled}
 use Rattle.receiver.specs.declared.Receiver.{Receiver}
 use Rattle.receiver.specs.Receiver.{Event}
 use Rattle.line.specs.Table.{All}
-use Rattle.receiver.specs.Calls.{after, Heard, heard, IsPoint, decidedStates, linesFrom2}
+use Rattle.receiver.specs.Calls.{after, Heard, heard, events, IsPoint, decidedStates, linesFrom2}
 use Rattle.receiver.specs.Turn.{Turned}
 use Rattle.sender.specs.Calls.{DataPoint}
 use Rattle.resync.specs.Assured.{assuredPoint, dataFrom, AllSettled}
 use Rattle.resync.specs.DataPoints.{Consecutive, Handed, givenFrom}
-
--- the events of accepted calls
-abbrev pub events : List Heard → List Event
-events xs = map (λ (x : Heard). x .event) xs
 
 -- what is vouched for of two lists A and B of accepted points, of one mode and role
 pub record Vouched (m role : ℕ) (A B : List Heard) : Type 0 where
   -- "The line bits from the second point on are equal EXACTLY when the decided states of one list are those of the other, all turned by
   -- one whole number of the mode's steps (mode 4: the first point by its quadrant only)."
   pub exactly : linesFrom2 A ≡ linesFrom2 B ↔ Turned m (decidedStates m A) (decidedStates m B)
-  -- "If so, all data bits from point 6 (mode 1), 5 (mode 2), 14 (mode 3), 8 (mode 4) are settled and equal."
+  -- "If so, all data bits from point 6 (mode 1), 5 (mode 2), 14 (mode 3), 8 (mode 4) are settled and equal." Being equal, those
+  -- of B are settled too.
   pub are-settled : Turned m (decidedStates m A) (decidedStates m B) → AllSettled (dataFrom (assuredPoint m) A)
   pub are-equal : Turned m (decidedStates m A) (decidedStates m B) → dataFrom (assuredPoint m) A ≡ dataFrom (assuredPoint m) B
   -- "If, besides, one list is consecutive data points of a sender of that mode and role, whatever it sent before, direct or read back from

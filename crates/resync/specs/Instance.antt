@@ -1,22 +1,19 @@
 -- A concrete list of calls for which every premise of demand 3 holds, so that none of them is empty: mode 1, eight data points of one
 -- sending call; one receiver gets them as written, after a gap and with a refused call among them, the other turned by 90°.
-use Prim.Native.Nat.{ℕ}
 use mathlib.Core.Path.{_≡_}
-use mathlib.Core.List.{List, [], _∷_, _++_, map}
-use lib.IntN.{ℤ, pos}
+use mathlib.Core.List.{List, [], _∷_, map}
+use lib.IntN.{pos}
 use lib.ListN.{length, replicate}
 use Rattle.line.specs.Point.{turned}
 use Rattle.scrambler.specs.Register.{register}
 use Rattle.receiver.specs.declared.Receiver.{Receiver}
 use Rattle.receiver.specs.Receiver.{Event, point, gap, freshReceiver}
 use Rattle.line.specs.Table.{All}
-use Rattle.receiver.specs.Calls.{after, heard, IsPoint, decidedStates}
+use Rattle.receiver.specs.Calls.{after, heard, events, IsPoint, decidedStates}
 use Rattle.receiver.specs.Turn.{Turned}
 use Rattle.sender.specs.declared.Sender.{Sender}
 use Rattle.sender.specs.Calls.{Send, DataPoint, dataPoints}
-use Rattle.track.specs.Append.{made}
-use Rattle.resync.specs.DataPoints.{Consecutive, received, appended, ReadBack, Handed}
-use Rattle.resync.specs.Demand.{events}
+use Rattle.resync.specs.DataPoints.{Consecutive, received, ReadBack}
 
 abbrev pub sender : Sender
 sender = record { mode = 1; role = 0; reference = 0; line = register 0 7 }

@@ -51,7 +51,7 @@ module _ (w : ℕ) (ds es : List ℕ) (p : 0 < w) (h : length ds % w ≡ 0) wher
   unfolding grouped
   grouped-append = rw points-append (groups-append w (length ds / w) (length es / w) ds es (whole-length w ds h))
 
-after-append : (s : Sender) (gs hs : List (List ℕ)) → afterGroups s (gs ++ hs) ≡ afterGroups (afterGroups s gs) hs
+pub after-append : (s : Sender) (gs hs : List (List ℕ)) → afterGroups s (gs ++ hs) ≡ afterGroups (afterGroups s gs) hs
 after-append s [] hs = refl
 after-append s (g ∷ gs) hs = after-append (afterGroup s g) gs hs
 
@@ -84,7 +84,7 @@ length-grouped w ds = length-groups w (length ds / w) ds
 
 -- CALLS
 
-every-append : (f : ℕ → Bool) (xs ys : List ℕ) → T (every f xs) → T (every f ys) → T (every f (xs ++ ys))
+pub every-append : (f : ℕ → Bool) (xs ys : List ℕ) → T (every f xs) → T (every f ys) → T (every f (xs ++ ys))
 every-append f [] ys t u = u
 every-append f (x ∷ xs) ys t u =
     and-intro (f x) (every f (xs ++ ys)) (and-left (f x) (every f xs) t) (every-append f xs ys (and-right (f x) (every f xs) t) u)
