@@ -1,11 +1,10 @@
 -- A number's decimal digits, counted and written from the last one on. Assumes nothing.
 use mathlib.Core.Path.{_≡_, refl, sym, ap, _∙_}
-use mathlib.Core.Bool.{true, false}
 use mathlib.Core.List.{List, [], _∷_, _++_}
 use Prim.Native.Nat.{ℕ, zero, suc, _+_, _-_, _/_, _%_, _^_, _≤_, _<_}
 use native.Mathlib.Omega.{arith}
 use native.Mathlib.Nat.{pow-suc}
-use borrow.Author.Tests.{lt-ltb, le-ltb, ltb-true, ltb-false}
+use borrow.Author.Tests.{lt-ltb, le-ltb, ltb-true}
 use lib.Dec.{ltb}
 use lib.ListN.{length, set, length-append}
 use lib.Seq.{sets, set-comm}
@@ -30,19 +29,13 @@ digits-more k n h = rw (le-ltb n 10 h)
 
 digits-spelt : (k n : ℕ) → digits k n ≡ spelt (length (digits k n)) n
 digits-spelt zero n = refl
-digits-spelt (suc k) n = by-test (ltb n 10) few (more (digits-spelt k (n / 10)))
-  where
-    few : ltb n 10 ≡ true → digits (suc k) n ≡ spelt (length (digits (suc k) n)) n
-    few e =
-        let h : n < 10 = ltb-true n 10 e in
-        let d = digits-few k n h in
-        d ∙ ap (λ (x : ℕ). (48 + x) ∷ []) (let q : n ≡ n % 10 = omega arith in q) ∙ sym (ap (λ (l : List ℕ). spelt (length l) n) d)
-
-    more : digits k (n / 10) ≡ spelt (length (digits k (n / 10))) (n / 10) → ltb n 10 ≡ false → digits (suc k) n ≡ spelt (length (digits (suc k) n)) n
-    more r e =
-        let d = digits-more k n (ltb-false n 10 e) in
-        let l : length (digits (suc k) n) ≡ suc (length (digits k (n / 10))) = omega (arith, ap length d, length-append (digits k (n / 10)) ((48 + n % 10) ∷ [])) in
-        d ∙ ap (λ (u : List ℕ). u ++ ((48 + n % 10) ∷ [])) r ∙ sym (ap (λ (j : ℕ). spelt j n) l)
+digits-spelt (suc k) n =
+    by-test (ltb n 10)
+    (λ e. let h = ltb-true n 10 e in let q : n % 10 ≡ n = omega arith in rw (e, q))
+    (λ e.
+    let d : List ℕ = digits k (n / 10) in
+    let l : length (d ++ ((48 + n % 10) ∷ [])) ≡ suc (length d) = simp length-append (omega arith) in
+    rw (e, l) (ap (λ (u : List ℕ). u ++ ((48 + n % 10) ∷ [])) (digits-spelt k (n / 10))))
 
 digits-long : (k n : ℕ) → length (digits k n) ≤ k
 digits-long zero n = omega arith

@@ -3,6 +3,7 @@ use mathlib.Core.Path.{_≡_, refl, sym, ap, ap₂, _∙_, subst}
 use mathlib.Core.List.{List, [], _∷_, _++_, map}
 use Prim.Native.Nat.{ℕ, zero, suc, _+_, _*_, _-_, _^_, _/_, _%_, _≤_, _<_}
 use native.Mathlib.Omega.{arith}
+use native.Mathlib.Nat.{add-zero}
 use borrow.Author.Tests.{ne-eqb, eq-eqb, le-leb}
 use lib.Dec.{T}
 use lib.IntN.{ℤ}
@@ -76,9 +77,11 @@ pub numbers-again : (r : List ℕ) (zs all : List ℤ) (k : ℕ) (x : ℤ) → k
     → sets (set zs k x) (k + 1) (numbersLeft r (k + 1)) ≡ all
 unfolding numbersIn
 numbers-again r zs all k x h e g =
-    ap₂ (λ (y : ℤ) (n : ℕ). sets (set zs k y) n (numbersLeft r (k + 1))) (e ∙ ap signed (sym (u16-drop r (4 + 2 * k) 0 ∙ ap (u16 r) (let q : 4 + 2 * k + 0 ≡ 4 + 2 * k = omega arith in q)))) (let q : k + 1 ≡ suc k = omega arith in q)
-    ∙ ap (λ (l : List ℕ). sets (set zs k (i16 (drop (4 + 2 * k) r) 0)) (suc k) (numbersIn l (14 - (k + 1)))) (ap (λ (n : ℕ). drop n r) (let q : 4 + 2 * (k + 1) ≡ 4 + 2 * k + 2 = omega arith in q) ∙ sym (drop-drop 2 (4 + 2 * k) r))
-    ∙ ap (λ (n : ℕ). sets zs k (numbersIn (drop (4 + 2 * k) r) n)) (let q : suc (14 - (k + 1)) ≡ 14 - k = omega arith in q) ∙ g
+    let v : i16 (drop (4 + 2 * k) r) 0 ≡ x = ap signed (u16-drop r (4 + 2 * k) 0 ∙ ap (u16 r) (add-zero (4 + 2 * k))) ∙ sym e in
+    let d : drop (4 + 2 * (k + 1)) r ≡ drop 2 (drop (4 + 2 * k) r) = ap (λ (n : ℕ). drop n r) (let q : 4 + 2 * (k + 1) ≡ 4 + 2 * k + 2 = omega arith in q) ∙ sym (drop-drop 2 (4 + 2 * k) r) in
+    let n : 14 - k ≡ suc (14 - (k + 1)) = omega arith in
+    let s : k + 1 ≡ suc k = omega arith in
+    rw (d, ← v, s) (rw (n, s) at g)
 
 pub numbers-end : (r : List ℕ) (zs all : List ℤ) (k : ℕ) → 14 ≤ k → sets zs k (numbersLeft r k) ≡ all → zs ≡ all
 unfolding numbersIn

@@ -1,6 +1,6 @@
 -- Runs of bytes written one after the other, and the glyphs of a group of bits. Assumes nothing.
 use mathlib.Core.Path.{_≡_, refl, sym, ap, ap₂, _∙_}
-use mathlib.Core.Bool.{true, false, cond}
+use mathlib.Core.Bool.{cond}
 use mathlib.Core.List.{List, [], _∷_, _++_}
 use Prim.Native.Nat.{ℕ, suc, _+_, _-_, _/_, _%_, _^_, _≤_, _<_}
 use native.Mathlib.Omega.{arith}
@@ -9,7 +9,6 @@ use borrow.Author.Tests.{ltb-true, ltb-false, ne-eqb}
 use lib.Dec.{ltb}
 use lib.ListN.{length, length-append}
 use lib.Seq.{sets}
-use Rattle.line.proofs.Tests.{cond-true, cond-false}
 use Rattle.octets.proofs.Tests.{by-test}
 use Rattle.octets.proofs.Sets.{sets-then}
 use Rattle.scrambler.specs.Bits.{bits}
@@ -62,23 +61,15 @@ bits-end w v u k h = ap (λ (m : ℕ). glyphs (marked (u - k) (bits m v))) (let 
 
 pub bits-step : (w v u k c : ℕ) → k < w → c ≡ cond (ltb k u) 45 (48 + v / 2 ^ (w - 1 - k) % 2) → bitsLeft w v u k ≡ c ∷ bitsLeft w v u (k + 1)
 bits-step w v u k c h e =
-    ap (λ (m : ℕ). glyphs (marked (u - k) (bits m v))) (let q : w - k ≡ suc (w - (k + 1)) = omega arith in q) ∙ by-test (ltb k u) marks settles
-  where
-    marks : ltb k u ≡ true → glyphs (marked (u - k) (bits (suc (w - (k + 1))) v)) ≡ c ∷ bitsLeft w v u (k + 1)
-    marks t =
-        let l : k < u = ltb-true k u t in
-        ap (λ (m : ℕ). glyphs (marked m (bits (suc (w - (k + 1))) v))) (let q : u - k ≡ suc (u - (k + 1)) = omega arith in q)
-        ∙ ap (λ (x : ℕ). x ∷ bitsLeft w v u (k + 1)) (sym (e ∙ cond-true (ltb k u) 45 _ t))
-
-    settles : ltb k u ≡ false → glyphs (marked (u - k) (bits (suc (w - (k + 1))) v)) ≡ c ∷ bitsLeft w v u (k + 1)
-    settles t =
-        let l : u ≤ k = ltb-false k u t in
-        let z : u - k ≡ 0 = omega arith in
-        let y : 0 ≡ u - (k + 1) = omega arith in
-        let x : w - (k + 1) ≡ w - 1 - k = omega arith in
-        ap (λ (m : ℕ). glyphs (marked m (bits (suc (w - (k + 1))) v))) z
-        ∙ ap₂ (λ (a b : ℕ). (48 + v / 2 ^ a % 2) ∷ glyphs (marked b (bits (w - (k + 1)) v))) x y
-        ∙ ap (λ (x : ℕ). x ∷ bitsLeft w v u (k + 1)) (sym (e ∙ cond-false (ltb k u) 45 _ t))
+    ap (λ (m : ℕ). glyphs (marked (u - k) (bits m v))) (let q : w - k ≡ suc (w - (k + 1)) = omega arith in q)
+    ∙ by-test (ltb k u)
+    (λ t. let l = ltb-true k u t in let q : u - k ≡ suc (u - (k + 1)) = omega arith in rw (q, e, t))
+    (λ t.
+    let l = ltb-false k u t in
+    let z : u - k ≡ 0 = omega arith in
+    let y : u - (k + 1) ≡ 0 = omega arith in
+    let x : w - (k + 1) ≡ w - 1 - k = omega arith in
+    rw (z, y, x, e, t))
 
 -- line bits read as settled ones
 pub lines-settled : (bs : List ℕ) → glyphs (marked 0 bs) ≡ lineGlyphs bs

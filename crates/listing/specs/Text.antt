@@ -124,7 +124,7 @@ longest = 372591
 unfoldable pub listNumber : ℕ → ℕ
 listNumber room = need (leb longest room) 7 0
 
--- how many bytes were written, where they were
+-- how many bytes were written: one number, none where the call is refused
 abbrev pub listCounts : List ℕ → ℕ → List ℕ
 listCounts s room = accepted (listNumber room) (length (text s) ∷ []) []
 
@@ -132,7 +132,7 @@ listCounts s room = accepted (listNumber room) (length (text s) ∷ []) []
 unfoldable pub listResult : List ℕ → List ℕ → List ℕ
 listResult s out = accepted (listNumber (length out)) (sets out 0 (text s)) out
 
--- what each case of the answer says: a refusal's number, 0 for none; and how many bytes were written, where they were
+-- what each case of the answer says: a refusal's number, 0 for none; and how many bytes were written, where it is not refused
 abbrev pub numberOf : Listed → ℕ
 numberOf (Refused n) = n
 numberOf (Written n) = 0

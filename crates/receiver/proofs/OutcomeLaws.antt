@@ -20,7 +20,6 @@ use Rattle.line.proofs.RefusalLaws.{or-some}
 use Rattle.deciding.proofs.SectorLaws.{never-no-sector}
 use Rattle.scrambler.specs.declared.Register.{Register}
 use Rattle.scrambler.specs.declared.Descrambled.{Descrambled}
-use Rattle.scrambler.specs.Bits.{bits}
 use Rattle.scrambler.specs.Register.{fresh, registerOk}
 use Rattle.scrambler.specs.Group.{descrambled}
 use Rattle.scrambler.proofs.GroupLaws.{group-read}

@@ -12,7 +12,6 @@ use lib.Seq.{sets, drop-at, take-at, drop-nil}
 use Rattle.line.proofs.RefusalLaws.{need-met, need-rest, next-rest}
 use Rattle.line.specs.Mode.{width}
 use Rattle.deciding.specs.Decide.{stateIn}
-use Rattle.scrambler.specs.Bits.{bits}
 use Rattle.scrambler.specs.Scramble.{settled, descramble}
 use Rattle.receiver.specs.Receiver.{Event, point, gap}
 use Rattle.receiver.specs.Calls.{Heard, decidedAs, row, events as heardEvents}

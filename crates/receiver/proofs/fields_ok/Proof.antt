@@ -2,10 +2,6 @@ use Rattle.receiver.proofs.OutcomeLaws.{fields-none, fields-some}
 use borrow.Author.Needs.{needs}
 use Rattle.receiver.proofs.fields_ok.Statement.{statement}
 use Rattle.receiver.proofs.fields_ok.Tie as tie
-use Rattle.receiver.proofs.fields_ok.Reads as reads
-use Rattle.receiver.proofs.fields_ok.Lts as lts
-use Rattle.line.proofs.state_ok.Reads as state-ok-reads
-use Rattle.scrambler.proofs.register_ok.Reads as register-ok-reads
 
 enum-told : tie.Need-enum-told
 enum-told c = search needs

@@ -2,10 +2,6 @@ use Rattle.receiver.proofs.OutcomeLaws.{started-fault, started-ready}
 use borrow.Author.Needs.{needs}
 use Rattle.receiver.proofs.fresh.Statement.{statement}
 use Rattle.receiver.proofs.fresh.Tie as tie
-use Rattle.receiver.proofs.fresh.Reads as reads
-use Rattle.receiver.proofs.fresh.Lts as lts
-use Rattle.line.proofs.mode_fault.Reads as mode-fault-reads
-use Rattle.scrambler.proofs.fresh_register.Reads as fresh-register-reads
 
 mode-fault-requires : tie.Need-mode-fault-requires
 mode-fault-requires c κs = search needs

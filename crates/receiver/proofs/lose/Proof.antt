@@ -2,10 +2,6 @@ use Rattle.receiver.proofs.OutcomeLaws.{room-none, lost-law}
 use borrow.Author.Needs.{needs}
 use Rattle.receiver.proofs.lose.Statement.{statement}
 use Rattle.receiver.proofs.lose.Tie as tie
-use Rattle.receiver.proofs.lose.Reads as reads
-use Rattle.receiver.proofs.lose.Lts as lts
-use Rattle.receiver.proofs.moved.Reads as moved-reads
-use Rattle.scrambler.proofs.fresh_register.Reads as fresh-register-reads
 
 sub-if1 : tie.Need-sub-if1
 sub-if1 c = search needs

@@ -2,10 +2,6 @@ use Rattle.receiver.proofs.OutcomeLaws.{both, outcome-fault, gap-none, 
 use borrow.Author.Needs.{needs}
 use Rattle.receiver.proofs.receive_gap.Statement.{statement}
 use Rattle.receiver.proofs.receive_gap.Tie as tie
-use Rattle.receiver.proofs.receive_gap.Reads as reads
-use Rattle.receiver.proofs.receive_gap.Lts as lts
-use Rattle.receiver.proofs.lose.Reads as lose-reads
-use Rattle.receiver.proofs.state_fault.Reads as state-fault-reads
 
 state-fault-requires : tie.Need-state-fault-requires
 state-fault-requires c κs = search needs

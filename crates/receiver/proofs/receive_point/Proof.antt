@@ -2,13 +2,6 @@ use Rattle.receiver.proofs.OutcomeLaws.{both, outcome-fault, point-far,
 use borrow.Author.Needs.{needs}
 use Rattle.receiver.proofs.receive_point.Statement.{statement}
 use Rattle.receiver.proofs.receive_point.Tie as tie
-use Rattle.receiver.proofs.receive_point.Reads as reads
-use Rattle.receiver.proofs.receive_point.Lts as lts
-use Rattle.deciding.proofs.decide.Reads as decide-reads
-use Rattle.line.proofs.in_range.Reads as in-range-reads
-use Rattle.receiver.proofs.lose.Reads as lose-reads
-use Rattle.receiver.proofs.state_fault.Reads as state-fault-reads
-use Rattle.receiver.proofs.take_state.Reads as take-state-reads
 
 state-fault-requires : tie.Need-state-fault-requires
 state-fault-requires c κs = search needs

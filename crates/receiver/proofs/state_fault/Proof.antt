@@ -2,10 +2,6 @@ use Rattle.receiver.proofs.OutcomeLaws.{fault-early, fault-fields, faul
 use borrow.Author.Needs.{needs}
 use Rattle.receiver.proofs.state_fault.Statement.{statement}
 use Rattle.receiver.proofs.state_fault.Tie as tie
-use Rattle.receiver.proofs.state_fault.Reads as reads
-use Rattle.receiver.proofs.state_fault.Lts as lts
-use Rattle.receiver.proofs.fields_ok.Reads as fields-ok-reads
-use Rattle.line.proofs.mode_fault.Reads as mode-fault-reads
 
 mode-fault-requires : tie.Need-mode-fault-requires
 mode-fault-requires c κs = search needs

@@ -2,11 +2,6 @@ use Rattle.receiver.proofs.OutcomeLaws.{room-none, reference-law, bits-
 use borrow.Author.Needs.{needs}
 use Rattle.receiver.proofs.take_state.Statement.{statement}
 use Rattle.receiver.proofs.take_state.Tie as tie
-use Rattle.receiver.proofs.take_state.Reads as reads
-use Rattle.receiver.proofs.take_state.Lts as lts
-use Rattle.coding.proofs.group_of.Reads as group-of-reads
-use Rattle.receiver.proofs.moved.Reads as moved-reads
-use Rattle.scrambler.proofs.descramble_group.Reads as descramble-group-reads
 
 sub-if1 : tie.Need-sub-if1
 sub-if1 c = search needs
