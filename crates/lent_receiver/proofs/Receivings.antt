@@ -5,7 +5,7 @@ use mathlib.Core.Bool.{Bool, true, false, _&&_, cond}
 use mathlib.Core.List.{List, map}
 use native.Mathlib.Omega.{arith}
 use borrow.Author.Tests.{le-leb, lt-leb}
-use lib.Dec.{T, leb, ltb, eqb}
+use lib.Dec.{leb, ltb, eqb}
 use lib.IntN.{ℤ}
 use lib.ListN.{length, getD}
 use lib.Seq.{sets}
@@ -13,8 +13,8 @@ use Rattle.deciding.specs.declared.Decision.{Decision}
 use Rattle.deciding.specs.declared.Decision.the-variants.{State, Origin, NoSector}
 use Rattle.line.specs.Point.{pairs}
 use Rattle.deciding.specs.Decide.{decide}
+use Rattle.deciding.proofs.SectorLaws.{never-no-sector}
 use Rattle.line.specs.Refusal.{orNext, accepted}
-use Rattle.line.proofs.RefusalLaws.{next-rest}
 use Rattle.receiver.specs.declared.Reference.{Reference}
 use Rattle.receiver.specs.declared.Reference.the-variants.{Nothing as none, State as some}
 use Rattle.receiver.specs.declared.Receiver.{Receiver}
@@ -25,10 +25,9 @@ use Rattle.receiver.specs.declared.Outcome.the-variants.{Refused, Referenced, B
 use Rattle.receiver.specs.declared.Started.{Started}
 use Rattle.receiver.specs.declared.Started.the-variants.{Refused as NotStarted, Ready}
 use Rattle.line.specs.Refusal.{modeRefusal}
-use Rattle.receiver.specs.Receiver.{Event, point, gap, freshReceiver, stateRefusal, inSector, refusal, stateNext, pointNext, eventNext, next}
+use Rattle.receiver.specs.Receiver.{Event, point, gap, freshReceiver, refusal, stateNext, pointNext, eventNext, next}
 use Rattle.receiver.specs.Outcome.{stateOutcome, pointOutcome, eventOutcome, outcome, numberOf as startedNumber, Made, started}
 use Rattle.receiver.specs.Calls.{after}
-use Rattle.receiver.proofs.OutcomeLaws.{in-a-sector}
 use Rattle.bulk.specs.declared.Block.{Block}
 use Rattle.bulk.specs.declared.Block.the-variants.{Refused as NotTaken, Taken}
 use Rattle.bulk.specs.Block.{blockRefusal, numberOf, Told, block, lineBytes, plainBytes}
@@ -107,31 +106,31 @@ module _ (s : Receiver) where
   state-left none y = (refl, λ b. refl)
   state-left (some x) y = (refl, λ b. refl)
 
-  point-left : (d : Decision) → T (inSector d) → Left (pointOutcome s d) (pointNext s d)
+  point-left : (d : Decision) → (d ≡ NoSector → ⊥) → Left (pointOutcome s d) (pointNext s d)
   unfolding pointOutcome pointNext
-  point-left (State y) t = state-left (s .reference) y
-  point-left Origin t = (refl, λ b. refl)
-  point-left NoSector t = absurd t
+  point-left (State y) f = state-left (s .reference) y
+  point-left Origin f = (refl, λ b. refl)
+  point-left NoSector f = absurd (f refl)
 
-  event-left : (e : Event) → refusal s e ≡ 0 → Left (eventOutcome s e) (eventNext s e)
-  unfolding eventOutcome eventNext refusal
-  event-left (point p) z = point-left (decide (s .mode) p) (in-a-sector (s .mode) p)
-  event-left (gap n) z = (refl, λ b. refl)
+  event-left : (e : Event) → Left (eventOutcome s e) (eventNext s e)
+  unfolding eventOutcome eventNext
+  event-left (point p) = point-left (decide (s .mode) p) (never-no-sector (s .mode) p)
+  event-left (gap n) = (refl, λ b. refl)
 
   -- the number, the state's bytes and the answer's bytes of an outcome
   outcome-left : (e : Event)
       → (numberOut (outcome s e) ≡ refusal s e) × ((b : List ℕ) → stateAfter (outcome s e) b ≡ accepted (refusal s e) (sets b 0 (receiverOut (next s e))) b)
       × ((b : List ℕ) → sets b 0 (answerOut (outcome s e)) ≡ accepted (refusal s e) (sets b 0 (answerOut (outcome s e))) b)
   unfolding outcome next
-  outcome-left e = go (refusal s e) refl
+  outcome-left e = go (refusal s e)
     where
-      go : (n : ℕ) → refusal s e ≡ n
+      go : (n : ℕ)
           → (numberOut (accepted n (eventOutcome s e) (Refused n)) ≡ n)
           × ((b : List ℕ) → stateAfter (accepted n (eventOutcome s e) (Refused n)) b ≡ accepted n (sets b 0 (receiverOut (accepted n (eventNext s e) s))) b)
           × ((b : List ℕ) → sets b 0 (answerOut (accepted n (eventOutcome s e) (Refused n)))
           ≡ accepted n (sets b 0 (answerOut (accepted n (eventOutcome s e) (Refused n)))) b)
-      go zero z = (event-left e z .0, event-left e z .1, λ b. refl)
-      go (suc n) z = (refl, λ b. refl, λ b. refl)
+      go zero = (event-left e .0, event-left e .1, λ b. refl)
+      go (suc n) = (refl, λ b. refl, λ b. refl)
 
 -- number 7 and a lower one leave every byte
 leaves : (n : ℕ) (x b : List ℕ) → accepted (atMost7 n) x b ≡ b

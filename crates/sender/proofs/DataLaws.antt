@@ -119,7 +119,7 @@ made-front : (s : Sender) (xs ys : List DataPoint) → Made s (xs ++ ys) → Mad
 made-front s [] ys k = tt
 made-front s (x ∷ xs) ys k = (k .0, k .1, k .2, k .3, made-front (afterGroup s (x .bits)) xs ys (k .4))
 
--- "consecutive ones follow one another in one sender's list, across its calls"
+-- "Consecutive ones follow one another in one sender's list, across its calls"
 pub consecutive : (s : Sender) (cs : List Send) (pre ds post : List DataPoint) → dataPoints s cs ≡ pre ++ (ds ++ post) → From (s .mode) (s .role) ds
 consecutive s cs pre ds post e =
     let f = made-later s pre (ds ++ post) (subst (Made s) e (made s cs)) in

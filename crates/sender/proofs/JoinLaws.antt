@@ -23,9 +23,9 @@ use Rattle.sender.specs.declared.Sent.{Sent}
 use Rattle.sender.specs.declared.Sent.the-variants.{Refused, Ready}
 use Rattle.sender.specs.Sender.{hasRoom, dataRefusal, sendRefusal, groups, grouped, afterGroup, afterGroups, sentStates, sendAnswer, sendNumbers}
 use Rattle.sender.specs.Calls.{SentTogether}
-use Rattle.sender.proofs.RefusalLaws.{StateOk, DataOk, send-ok}
+use Rattle.sender.proofs.RefusalLaws.{StateOk, state-met, DataOk, send-ok}
 use Rattle.sender.proofs.SendLaws.{group-mode}
-use Rattle.sender.proofs.StateLaws.{state-met, whole-length}
+use Rattle.sender.proofs.StateLaws.{whole-length}
 
 -- GROUPS OF TWO INPUTS
 

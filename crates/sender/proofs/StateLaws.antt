@@ -10,9 +10,7 @@ use lib.Dec.{T, eqb, eqb→eq}
 use lib.ListN.{length, drop, length-take, length-drop}
 use Rattle.line.specs.Table.{every}
 use Rattle.line.specs.Mode.{isMode, isRole, isState, width, capacity}
-use Rattle.line.specs.Refusal.{need, orNext, modeRefusal}
 use Rattle.line.proofs.TableLaws.{and-left, and-right, and-intro}
-use Rattle.line.proofs.RefusalLaws.{need-intro}
 use Rattle.scrambler.specs.Bits.{isBit}
 use Rattle.scrambler.specs.Register.{registerOk}
 use Rattle.scrambler.proofs.RegisterLaws.{ok, passes}
@@ -25,7 +23,7 @@ use Rattle.sender.specs.declared.Sent.the-variants.{Ready}
 use Rattle.sender.specs.Sender.{coderOf, senderOf, fieldsOk, stateRefusal, groups, grouped, afterGroup, afterGroups, sendRefusal, answered, sendAnswer}
 use Rattle.sender.specs.Open.{openRefusal, opened, openAnswer}
 use Rattle.sender.specs.Calls.{Passes, OpenedPasses, SentPasses}
-use Rattle.sender.proofs.RefusalLaws.{StateOk, state-ok, DataOk, send-ok}
+use Rattle.sender.proofs.RefusalLaws.{StateOk, state-ok, state-met, DataOk, send-ok}
 use Rattle.sender.proofs.SendLaws.{every-take, every-drop, group-mode}
 use Rattle.sender.proofs.OpenLaws.{open-ok}
 
@@ -49,11 +47,7 @@ fields-pass m role c k =
     (and-intro (eqb (c .line .held .0) (capacity m)) _ (subst T (sym (eq-eqb (c .line .held .0) (capacity m) (k .full))) tt) (passes m (c .line) (k .fit)))
 
 state-passes : (m role : ℕ) (c : Coder) → T (isMode m) → T (isRole m role) → CanSend m c → stateRefusal (senderOf m role c) ≡ 0
-unfolding stateRefusal modeRefusal
-state-passes m role c hm hr k =
-    let r : ℕ = need (fieldsOk (senderOf m role c)) 4 0 in
-    ap (λ (n : ℕ). orNext n r) (need-intro (isMode m) 1 _ hm (need-intro (isRole m role) 2 _ hr refl))
-    ∙ need-intro (fieldsOk (senderOf m role c)) 4 _ (fields-pass m role c k) refl
+state-passes m role c hm hr k = state-met (senderOf m role c) (record { mode = hm; role = hr; fields = fields-pass m role c k })
 
 -- WHOLE GROUPS
 
@@ -88,10 +82,6 @@ groups-pass s (g ∷ gs) z w =
     (subst (λ (m : ℕ). Whole (width m) gs) (sym (group-mode s g)) (w .2))
 
 -- THE LAWS
-
--- a sender that numbers 1, 2 and 4 let pass
-pub state-met : (s : Sender) → StateOk s → stateRefusal s ≡ 0
-state-met s k = state-passes (s .mode) (s .role) (coderOf s) (k .mode) (k .role) (can-send s (k .fields))
 
 passes-if : (n : ℕ) (t : Sender) → (n ≡ 0 → stateRefusal t ≡ 0) → Passes (answered n t)
 passes-if zero t f = f refl

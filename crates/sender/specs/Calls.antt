@@ -37,7 +37,7 @@ abbrev pub standing : List ℤ → ℕ → List (List ℕ) → List DataPoint
 standing ns k [] = []
 standing ns k (g ∷ gs) = record { point = at (getD ns k (pos 0)) (getD ns (k + 1) (pos 0)); bits = g } ∷ standing ns (k + 2) gs
 
--- "data points are those that accepted sending calls write, as they stand when the call returns"; a refused call writes none
+-- "Data points are those that accepted sending calls write, as they stand when the call returns"; a refused call writes none
 abbrev pub dataOf : Sent → Sender → Send → List DataPoint
 dataOf (Refused n) s c = []
 dataOf (Ready t) s c = standing (numbersAfter s c) (c .offset) (grouped (width (s .mode)) (c .bits))

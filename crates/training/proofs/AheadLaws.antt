@@ -1,13 +1,12 @@
--- Training by the table is training: what the code computes of an interval, and the law `by-table`. Assumes nothing.
-use Prim.Native.Nat.{ℕ, zero, suc, _+_, _*_, _-_, _/_, _%_, _<_, _≤_}
+-- Training by the table is training: what the code computes of an interval, and the proof of `ByTable`. Assumes nothing.
+use Prim.Native.Nat.{ℕ, zero, suc, _+_, _*_, _-_, _%_, _<_, _≤_}
 use mathlib.Core.Path.{_≡_, refl, sym, _∙_, ap, ap₂, subst}
 use mathlib.Core.Bool.{Bool, true, false, cond}
 use mathlib.Core.List.{List, [], _∷_}
 use native.Mathlib.Nat.{add-zero}
 use native.Mathlib.Omega.{arith}
 use native.Mathlib.Decide.{decLt, decLe}
-use borrow.Author.Tests.{lt-ltb, le-ltb}
-use lib.Dec.{T, ltb, eqb}
+use lib.Dec.{eqb}
 use lib.ListN.{length, getD, replicate}
 use Rattle.line.specs.Mode.{byMode, width, farTap, capacity}
 use Rattle.line.proofs.ByMode.{mode-short, mode-long}
@@ -19,7 +18,7 @@ use Rattle.training.specs.declared.Coder.{Coder}
 use Rattle.training.specs.Coder.{coder, coding}
 use Rattle.training.specs.Training.{reversals, changes, spent, middle, train27, train32, train, start, intervals, trained, trainedStates}
 use Rattle.training.specs.Middle.{threes, change, MiddleTable}
-use Rattle.training.specs.Ahead.{ahead27, ahead, aheadStart}
+use Rattle.training.specs.Ahead.{ahead27, ahead, aheadStart, sentBy, ByTable}
 use Rattle.training.proofs.CoderLaws.{same-coder, ones-bits, scramble-same, pushes-same}
 use Rattle.training.proofs.MiddleLaws.{middle-end}
 use Rattle.training.proofs.TrainingLaws.{segment-1, segment-2, segment-3}
@@ -45,15 +44,14 @@ module _ (t : List ℕ) (m role n i : ℕ) (c : Coder) (a : ℕ) (ea : a ≡ rev
 
 module _ (f g : ℕ → Coder → Coder) (Rel : ℕ → Coder → Coder → Type 0)
     (next : (i : ℕ) (c d : Coder) → Rel i c d → (f i c .reference ≡ g i d .reference) × Rel (suc i) (f i c) (g i d)) where
-  same-states : (i n : ℕ) (c d : Coder) → Rel i c d → trainedStates f i n c ≡ trainedStates g i n d
-  same-states i zero c d r = refl
-  same-states i (suc n) c d r = let z = next i c d r in ap₂ _∷_ (z .0) (same-states (suc i) n (f i c) (g i d) (z .1))
-
-  same-end : (i n : ℕ) (c d : Coder) → Rel i c d → Rel (i + n) (trained f i n c) (trained g i n d)
-  same-end i zero c d r = subst (λ (k : ℕ). Rel k c d) (sym (add-zero i)) r
-  same-end i (suc n) c d r =
-      subst (λ (k : ℕ). Rel k (trained f (suc i) n (f i c)) (trained g (suc i) n (g i d))) (let e : suc i + n ≡ i + suc n = omega arith in e)
-      (same-end (suc i) n (f i c) (g i d) (next i c d r .1))
+  same : (i n : ℕ) (c d : Coder) → Rel i c d → (trainedStates f i n c ≡ trainedStates g i n d) × Rel (i + n) (trained f i n c) (trained g i n d)
+  same i zero c d r = (refl, subst (λ (k : ℕ). Rel k c d) (sym (add-zero i)) r)
+  same i (suc n) c d r =
+      let z = next i c d r in
+      let y = same (suc i) n (f i c) (g i d) (z .1) in (
+        ap₂ _∷_ (z .0) (y .0),
+        subst (λ (k : ℕ). Rel k (trained f (suc i) n (f i c)) (trained g (suc i) n (g i d))) (let e : suc i + n ≡ i + suc n = omega arith in e) (y .1),
+      )
 
 -- V.27 TER
 
@@ -134,10 +132,6 @@ module _ (t : List ℕ) (rule : MiddleTable t) (m role n : ℕ) (hm : m ≤ 2) w
 
 -- BOTH FAMILIES
 
--- the states that a whole training sends, and what it leaves
-abbrev pub sentBy : (ℕ → Coder → Coder) → ℕ → ℕ → Coder → List ℕ × Coder
-sentBy f m n c = (trainedStates f 0 (intervals m n) c, trained f 0 (intervals m n) c)
-
 short : (t : List ℕ) → MiddleTable t → (m role n : ℕ) → m ≤ 2 → sentBy (ahead t m role n) m n (aheadStart m) ≡ sentBy (train m role n) m n (start m)
 unfolding ahead train aheadStart start intervals
 short t rule m role n h =
@@ -150,9 +144,8 @@ short t rule m role n h =
     subst (λ (c : Coder). Ahead n 0 c (start m)) (sym (mode-short _ _ m h))
     (subst (Ahead n 0 (coder 0 (register 17 7))) (sym (mode-short _ _ m h))
     (till-end n 0 _ _ (omega arith) refl (sym (middle-end n)) (ap threes (let z : 0 ≡ 0 - reversals n = omega arith in z)))) in
-    let z = same-end (ahead t m role n) (train m role n) (Ahead n) next 0 (intervals m n) (aheadStart m) (start m) r in
-    ap₂ (λ (x : List ℕ) (y : Coder). (x, y)) (same-states (ahead t m role n) (train m role n) (Ahead n) next 0 (intervals m n) (aheadStart m) (start m) r)
-    (same-coder (z .state) (z .past (omega arith)))
+    let z = same (ahead t m role n) (train m role n) (Ahead n) next 0 (intervals m n) (aheadStart m) (start m) r in
+    ap₂ (λ (x : List ℕ) (y : Coder). (x, y)) (z .0) (same-coder (z .1 .state) (z .1 .past (omega arith)))
 
 long : (t : List ℕ) (m role n : ℕ) → 2 < m → sentBy (ahead t m role n) m n (aheadStart m) ≡ sentBy (train m role n) m n (start m)
 unfolding ahead train aheadStart start
@@ -161,12 +154,10 @@ long t m role n h =
     λ i c d e. let z : ahead t m role n i c ≡ train m role n i d = mode-long _ _ m h ∙ ap (train32 m role i) e ∙ sym (mode-long _ _ m h) in
     (ap (λ (x : Coder). x .reference) z, z) in
     let r : aheadStart m ≡ start m = mode-long _ _ m h ∙ sym (mode-long _ _ m h) in
-    ap₂ (λ (x : List ℕ) (y : Coder). (x, y))
-    (same-states (ahead t m role n) (train m role n) (λ i c d. c ≡ d) next 0 (intervals m n) (aheadStart m) (start m) r)
-    (same-end (ahead t m role n) (train m role n) (λ i c d. c ≡ d) next 0 (intervals m n) (aheadStart m) (start m) r)
+    let z = same (ahead t m role n) (train m role n) (λ i c d. c ≡ d) next 0 (intervals m n) (aheadStart m) (start m) r in
+    ap₂ (λ (x : List ℕ) (y : Coder). (x, y)) (z .0) (z .1)
 
--- training by the table sends what training sends, and leaves what it leaves
-pub by-table : (t : List ℕ) → MiddleTable t → (m role n : ℕ) → sentBy (ahead t m role n) m n (aheadStart m) ≡ sentBy (train m role n) m n (start m)
+pub by-table : ByTable
 by-table t rule m role n = go (decLe m 2)
   where
     go : Dec (m ≤ 2) → sentBy (ahead t m role n) m n (aheadStart m) ≡ sentBy (train m role n) m n (start m)

@@ -2,7 +2,7 @@
 -- Assumes nothing.
 use Prim.Native.Nat.{ℕ, zero, suc, _+_, _<_}
 use mathlib.Core.Path.{_≡_, refl, sym, _∙_, ap, subst}
-use mathlib.Core.Bool.{Bool, true, false, _&&_, cond}
+use mathlib.Core.Bool.{Bool, true, false, cond}
 use mathlib.Core.List.{List, [], _∷_}
 use native.Mathlib.Nat.{not-suc-le-zero, le-of-suc-le-suc, add-zero, zero-add}
 use native.Mathlib.Omega.{arith}
@@ -11,15 +11,10 @@ use lib.ListN.{length, getD}
 use Rattle.line.specs.Mode.{farTap, capacity}
 use Rattle.line.proofs.TableLaws.{and-left, and-right}
 use Rattle.scrambler.specs.declared.Register.{Register}
-use Rattle.scrambler.specs.Register.{register, back, nearTap, push, pushes}
-use Rattle.scrambler.specs.Scramble.{mix, scramble}
-use Rattle.training.specs.Training.{spent, changes}
-use Rattle.training.specs.Middle.{threes, change, MiddleTable}
-
--- each entry is the first of the three bits that follow the register
-abbrev pub walk : Register → List ℕ → Bool
-walk h [] = true
-walk h (x ∷ xs) = eqb x (getD (scramble 2 0 h (spent 2)) 0 0) && walk (pushes 2 h (scramble 2 0 h (spent 2))) xs
+use Rattle.scrambler.specs.Register.{register, back, nearTap, push}
+use Rattle.scrambler.specs.Scramble.{mix}
+use Rattle.training.specs.Training.{changes}
+use Rattle.training.specs.Middle.{threes, change, walk, TableRule}
 
 from : (xs : List ℕ) (n : ℕ) → T (walk (threes n) xs) → (k : ℕ) → k < length xs → getD xs k 0 ≡ change (n + k)
 unfolding change
@@ -30,7 +25,7 @@ from (x ∷ xs) n t (suc k) h =
     from xs (suc n) (and-right (eqb x (change n)) (walk (threes (suc n)) xs) t) k (le-of-suc-le-suc h)
     ∙ ap change (let e : suc n + k ≡ n + suc k = omega arith in e)
 
-pub table-rule : (xs : List ℕ) → 1074 ≡ length xs → T (walk (threes 0) xs) → MiddleTable xs
+pub table-rule : TableRule
 table-rule xs e t =
     record { at = λ k h. from xs 0 t k (subst (λ (n : ℕ). k < n) e h) ∙ ap change (zero-add k) }
 

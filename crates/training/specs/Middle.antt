@@ -2,8 +2,10 @@
 -- 0 1 1 1 1 0 0, oldest first. They stand as a table of 1,074 entries."
 use Prim.Native.Nat.{ℕ, zero, suc, _<_}
 use mathlib.Core.Path.{_≡_}
-use mathlib.Core.List.{List}
-use lib.ListN.{getD}
+use mathlib.Core.Bool.{Bool, true, _&&_}
+use mathlib.Core.List.{List, [], _∷_}
+use lib.Dec.{T, eqb}
+use lib.ListN.{length, getD}
 use Rattle.scrambler.specs.declared.Register.{Register}
 use Rattle.scrambler.specs.Register.{register, pushes}
 use Rattle.scrambler.specs.Scramble.{scramble}
@@ -21,3 +23,12 @@ change k = getD (scramble 2 0 (threes k) (spent 2)) 0 0
 -- the table's rule, at each of its entries
 pub record MiddleTable (t : List ℕ) : Type 0 where
   pub at : (k : ℕ) → k < 1074 → getD t k 0 ≡ change k
+
+-- the test of a whole table, in one pass that carries the register: each entry is the first of the three bits that follow it
+abbrev pub walk : Register → List ℕ → Bool
+walk h [] = true
+walk h (x ∷ xs) = eqb x (getD (scramble 2 0 h (spent 2)) 0 0) && walk (pushes 2 h (scramble 2 0 h (spent 2))) xs
+
+-- a table of 1,074 entries that passes the test follows the rule at each of them; proved in proofs/MiddleLaws
+abbrev pub TableRule : Type 0
+TableRule = (t : List ℕ) → 1074 ≡ length t → T (walk (threes 0) t) → MiddleTable t

@@ -11,7 +11,7 @@ use Rattle.scrambler.specs.Scramble.{scramble}
 use Rattle.training.specs.declared.Coder.{Coder}
 use Rattle.training.specs.Coder.{coder, coding}
 
--- "length choice 0 or 1: .. 14 or 50 reversals .. then 58 or 1074 changes"
+-- "length choice 0 or 1 .. 14 or 50 reversals .. then 58 or 1074 changes"
 unfoldable pub reversals : ℕ → ℕ
 reversals choice = cond (eqb choice 0) 14 50
 

@@ -1,6 +1,6 @@
 // What the sender's training does interval by interval: document 01, "Sender".
 ghost use mathlib.Core.Path.{_≡_};
-ghost use Prim.Native.Nat.{ℕ, _+_, _*_, _%_, _≤_, _<_};
+ghost use Prim.Native.Nat.{_+_, _*_, _%_, _≤_, _<_};
 ghost use Rattle.line.specs.Mode.{width};
 ghost use Rattle.scrambler.specs.Bits.{bits};
 ghost use Rattle.training.specs.Coder.{coding};
