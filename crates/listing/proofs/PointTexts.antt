@@ -34,7 +34,7 @@ use Rattle.receiver.specs.declared.Receiver.{Receiver}
 use Rattle.receiver.specs.Receiver.{Answer, decoded, stateRefusal, inSector, stateAnswer, pointAnswer, eventAnswer, answer, next}
 use Rattle.receiver.specs.Receiver.{Event as Call, point, refused, refusal}
 use Rattle.receiver.specs.Calls.{after, EachAccepted, Heard, answers}
-use Rattle.receiver.proofs.OutcomeLaws.{in-sector}
+use Rattle.receiver.proofs.OutcomeLaws.{in-a-sector}
 use Rattle.receiver.proofs.CallLaws.{no-refusal, accepted-valid, same-next, heard-accepted, heard-all}
 use Rattle.bulk.specs.declared.Block.{Block}
 use Rattle.bulk.specs.declared.Block.the-variants.{Refused as NotTaken, Taken}
@@ -129,9 +129,9 @@ module _ (s : Receiver) where
   point-says NoSector t = absurd t
 
   byte-answer : (p : Point) → refusal s (point p) ≡ 0 → Says (answer s (point p))
-  unfolding answer eventAnswer refusal
+  unfolding answer eventAnswer
   byte-answer p z =
-      subst Says (ap (λ (n : ℕ). accepted n (pointAnswer s (decide (s .mode) p)) (refused n)) (sym z)) (point-says (decide (s .mode) p) (in-sector s p (next-rest (stateRefusal s) _ z)))
+      subst Says (ap (λ (n : ℕ). accepted n (pointAnswer s (decide (s .mode) p)) (refused n)) (sym z)) (point-says (decide (s .mode) p) (in-a-sector (s .mode) p))
 
 bytes-lines : (s : Receiver) (ps : List Point) → EachAccepted s (map point ps)
     → byteLines (width (s .mode)) (s .place .0) (map lineByte (answersTo s ps)) (map plainByte (answersTo s ps)) ≡ lines s (map point ps)
