@@ -8,22 +8,19 @@ use native.Mathlib.Omega.{arith}
 use borrow.Author.Tests.{leb-true}
 use lib.Dec.{T, leb, eqb, le→leb}
 use lib.ListN.{getD, drop}
-use Rattle.deciding.specs.declared.Decision.{Decision}
-use Rattle.deciding.specs.declared.Decision.the-variants.{State, Origin, NoSector}
 use Rattle.line.specs.Table.{All}
 use Rattle.line.specs.Mode.{isMode, isRole}
 use Rattle.line.specs.Point.{inRange}
 use Rattle.deciding.specs.Decide.{decide}
-use Rattle.deciding.proofs.SectorLaws.{never-no-sector}
-use Rattle.line.specs.Refusal.{orNext, accepted}
+use Rattle.line.specs.Refusal.{orNext}
 use Rattle.line.proofs.RefusalLaws.{need-intro}
 use Rattle.octets.specs.Number.{u32, zeros}
 use Rattle.octets.proofs.Tests.{by-test, and-split}
 use Rattle.receiver.specs.declared.Receiver.{Receiver}
-use Rattle.receiver.specs.Receiver.{freshReceiver, isFresh, fieldsOk, inSector, hasRoom, intervals, placeAfter, next}
-use Rattle.receiver.specs.Receiver.{Event as Call, refusal as eventRefused, eventRefusal as eventNeeds}
+use Rattle.receiver.specs.Receiver.{freshReceiver, isFresh, fieldsOk, inSector, hasRoom, intervals, next}
+use Rattle.receiver.specs.Receiver.{refusal as eventRefused, eventRefusal as eventNeeds}
 use Rattle.receiver.specs.Calls.{EachAccepted}
-use Rattle.receiver.proofs.OutcomeLaws.{next-placed}
+use Rattle.receiver.proofs.OutcomeLaws.{in-a-sector, accepted-placed}
 use Rattle.receiver.proofs.CallLaws.{Valid, no-refusal, next-valid}
 use Rattle.store.specs.Chain.{gather, sumOver}
 use Rattle.store.specs.Layout.{Event, point, lost, rec, held, isPoints, pointAt, points, pointsOk, kind, recordOk, spanOf, eventsOf}
@@ -86,21 +83,12 @@ chain-span f (i ∷ c) =
     omega (arith, span-append (eventsOf (f i)) (gather (λ j. eventsOf (f j)) c), record-span (f i), chain-span f c)
 
 -- ---- what a receiver refuses
-in-a-sector : (d : Decision) → (d ≡ NoSector → ⊥) → T (inSector d)
-in-a-sector (State y) h = tt
-in-a-sector Origin h = tt
-in-a-sector NoSector h = absurd (h refl)
-
 needs-met : (s : Receiver) (e : Event) → Fine e → s .place .0 + intervals (taken e) ≤ 4294967295 → eventNeeds s (taken e) ≡ 0
 unfolding eventNeeds hasRoom
 needs-met s (point p) f h =
     need-intro (inRange p) 8 _ f
-    (need-intro (inSector (decide (s .mode) p)) 10 _ (in-a-sector (decide (s .mode) p) (never-no-sector (s .mode) p)) (need-intro (hasRoom s 1) 16 0 (le→leb _ _ h) refl))
+    (need-intro (inSector (decide (s .mode) p)) 10 _ (in-a-sector (s .mode) p) (need-intro (hasRoom s 1) 16 0 (le→leb _ _ h) refl))
 needs-met s (lost n) f h = need-intro (leb 1 n) 9 _ (le→leb 1 n f) (need-intro (hasRoom s n) 16 0 (le→leb _ _ h) refl)
-
-pub placed : (s : Receiver) (e : Call) → eventRefused s e ≡ 0 → next s e .place .0 ≡ s .place .0 + intervals e
-unfolding placeAfter
-placed s e z = next-placed s e ∙ ap (λ (n : ℕ). accepted n (s .place .0 + intervals e) (s .place .0)) z
 
 all-accepted : (es : List Event) (s : Receiver) → Valid s → All Fine es → s .place .0 + span es ≤ 4294967295 → EachAccepted s (map taken es)
 unfolding eventRefused
@@ -108,7 +96,7 @@ all-accepted [] s v f h = tt
 all-accepted (e ∷ es) s v f h =
     let n : eventNeeds s (taken e) ≡ 0 = needs-met s e (f .0) (omega arith) in
     let a : eventRefused s (taken e) ≡ 0 = ap (λ (k : ℕ). orNext k (eventNeeds s (taken e))) (no-refusal s v) ∙ n in
-    (a, all-accepted es (next s (taken e)) (next-valid s v (taken e)) (f .1) (omega (arith, placed s (taken e) a)))
+    (a, all-accepted es (next s (taken e)) (next-valid s v (taken e)) (f .1) (omega (arith, accepted-placed s (taken e) a)))
 
 -- ---- an accepted store
 pub head-parts : (r : List ℕ) → headOk r ≡ true → (isMode (getD r 4 0) ≡ true) × (isRole (getD r 4 0) (getD r 5 0) ≡ true)

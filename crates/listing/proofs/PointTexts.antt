@@ -16,7 +16,6 @@ use Rattle.line.specs.Point.{at, pairs}
 use Rattle.line.specs.Refusal.{accepted}
 use Rattle.line.proofs.ByMode.{width-range}
 use Rattle.line.proofs.PointLaws.{pairs-length}
-use Rattle.line.proofs.RefusalLaws.{next-rest}
 use Rattle.octets.specs.Number.{u16, i16, signed}
 use Rattle.octets.proofs.Numbers.{u16-drop}
 use Rattle.octets.proofs.Sets.{sets-whole}
@@ -34,7 +33,7 @@ use Rattle.receiver.specs.declared.Receiver.{Receiver}
 use Rattle.receiver.specs.Receiver.{Answer, decoded, stateRefusal, inSector, stateAnswer, pointAnswer, eventAnswer, answer, next}
 use Rattle.receiver.specs.Receiver.{Event as Call, point, refused, refusal}
 use Rattle.receiver.specs.Calls.{after, EachAccepted, Heard, answers}
-use Rattle.receiver.proofs.OutcomeLaws.{in-a-sector}
+use Rattle.receiver.proofs.OutcomeLaws.{in-a-sector, accepted-placed}
 use Rattle.receiver.proofs.CallLaws.{no-refusal, accepted-valid, same-next, heard-accepted, heard-all}
 use Rattle.bulk.specs.declared.Block.{Block}
 use Rattle.bulk.specs.declared.Block.the-variants.{Refused as NotTaken, Taken}
@@ -44,7 +43,6 @@ use Rattle.store.specs.Layout.{points}
 use Rattle.listing.specs.Text.{lineText, taken, lines}
 use Rattle.listing.specs.Wrote.{Wrote, Went, numbersIn, byteAnswer, byteLines}
 use Rattle.listing.proofs.Writes.{wrote-as}
-use Rattle.listing.proofs.Heards.{placed}
 
 -- ---- the numbers of a record
 numbers-long : (bs : List ℕ) (n : ℕ) → length (numbersIn bs n) ≡ n
@@ -140,7 +138,7 @@ bytes-lines s (p ∷ ps) f =
     let t : Receiver = next s (point p) in
     ap (λ (xs : List Heard). byteLines (width (s .mode)) (s .place .0) (map lineByte (answers xs)) (map plainByte (answers xs))) (heard-accepted s (point p) (map point ps) (f .0))
     ∙ ap₂ (λ (a : Answer) (l : List ℕ). lineText (s .place .0) a ++ l) (byte-answer s p (f .0))
-    (ap₂ (λ (w place : ℕ). byteLines w place (map lineByte (answersTo t ps)) (map plainByte (answersTo t ps))) (ap width (sym (same-next s (point p) .0))) (sym (placed s (point p) (f .0)))
+    (ap₂ (λ (w place : ℕ). byteLines w place (map lineByte (answersTo t ps)) (map plainByte (answersTo t ps))) (ap width (sym (same-next s (point p) .0))) (sym (accepted-placed s (point p) (f .0)))
     ∙ bytes-lines t ps (f .1))
 
 -- ---- the block
