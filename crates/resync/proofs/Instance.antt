@@ -30,7 +30,7 @@ unfolding sent
 consecutive = record { sender = sender; mode-is = refl; role-is = refl; calls = call ∷ []; earlier = []; later = []; are = sym (append-nil sent) }
 
 read-back : ReadBack sent (received sent)
-unfolding sent entry rowFrom isMode isRole width capacity states isState quadrant face inRange isOrigin sent27 sentPoint changes4 coded eighths isBit back nearTap push registerOk mix coding dataRefusal sendRefusal grouped afterGroup sendAnswer sendNumbers sendFieldsOk sendStateRefusal sendHasRoom pattern signed recordOk spanOf eventsOf nextIndex chain events total sizeOk hasMark headOk chainOk recordsOk totalOk storeRefusal readNumber readCount readResult made recordHasRoom pointAppended pointNumber pointResult eventIn
+unfolding sent entry rowFrom isMode isRole width capacity states isState quadrant face inRange isOrigin sent27 sentPoint changes4 coded eighths isBit back nearTap push registerOk mix coding dataRefusal sendRefusal grouped afterGroup sendAnswer sendNumbers sendFieldsOk modeRefusal sendStateRefusal sendHasRoom pattern signed recordOk spanOf eventsOf nextIndex chain events total sizeOk hasMark headOk chainOk recordsOk totalOk storeRefusal readNumber readCount readResult made recordHasRoom pointAppended pointNumber pointResult eventIn
 read-back =
     record {
       store = made 96 1 0;
