@@ -9,7 +9,7 @@ use native.Mathlib.Omega.{arith}
 use lib.Dec.{T, ltb, ltb→lt}
 use lib.IntN.{ℤ, pos}
 use lib.ListN.{length, getD, take, drop, set, length-set, length-take, length-drop}
-use lib.Seq.{drop-drop, sets}
+use lib.Seq.{drop-drop, drop-length, sets}
 use Rattle.line.specs.Table.{every}
 use Rattle.line.specs.Mode.{width, face}
 use Rattle.coding.specs.Code.{coded}
