@@ -45,7 +45,7 @@ stateByte (State x) = x
 unfoldable pub receiverOut : Receiver → List ℕ
 receiverOut s = stateOut (s .mode) (s .role) (present (s .reference)) (stateByte (s .reference)) (s .line) (s .place .0)
 
--- a state written into lent bytes is the state that the next call reads; proved in proofs/Back
+-- a state written into lent bytes is the state that the next call reads (its numbers are u32); proved in proofs/Back
 abbrev pub ReadsBack : Type 0
 ReadsBack =
     (b : List ℕ) (s : Receiver) → 16 ≤ length b → s .line .bits < 4294967296 → s .place .0 < 4294967296

@@ -29,7 +29,7 @@ senderIn s = record { mode = getD s 0 0; role = getD s 1 0; reference = sentRefe
 unfoldable pub senderOut : Sender → List ℕ
 senderOut s = stateOut (s .mode) (s .role) (s .reference) 0 (s .line) 0
 
--- a state written into lent bytes is the state that the next call reads; proved in proofs/Back
+-- a state written into lent bytes is the state that the next call reads (its line bits are u32); proved in proofs/Back
 abbrev pub ReadsBack : Type 0
 ReadsBack = (b : List ℕ) (s : Sender) → 16 ≤ length b → s .line .bits < 4294967296 → senderIn (sets b 0 (senderOut s)) ≡ s
 

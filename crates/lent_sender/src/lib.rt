@@ -88,10 +88,8 @@ pub fn open(state: &mut [u8], mode: u8, role: u8, length: u32, out: &mut [i16], 
     ensures { λ r. ⌜ (r ≡ openNumber (now (state .entry)) mode role length (now (out .entry)) offset) × (now (state .exit) ≡ openState (now (state .entry)) mode role length (now (out .entry)) offset) × (now (out .exit) ≡ openOut (now (state .entry)) mode role length (now (out .entry)) offset) ⌝ }
 {
     if state.len() < 16 {
-        return line::or_next(
-            sender::open_refusal(mode, role, length, out.len(), offset),
-            7,
-        );
+        let n = sender::open_refusal(mode, role, length, out.len(), offset);
+        return line::or_next(n, 7);
     }
     let sent = sender::open(mode, role, length, out, offset);
     put_sent(state, sent)

@@ -75,17 +75,11 @@ written-training t rule m role length n c₀ c out₀ out i en ec l h =
 pub record OpenOk (m role n lent offset : ℕ) : Type 0 where
   pub mode : T (isMode m)
   pub role-of : T (isRole m role)
-  pub length-of : T (lengthOk m n)
   pub room : offset + 2 * intervals m n ≤ lent
 
 pub open-ok : (m role n lent offset : ℕ) → openRefusal m role n lent offset ≡ 0 → OpenOk m role n lent offset
 unfolding openRefusal hasRoom
 open-ok m role n lent offset z =
     let k = mode-met m role (next-first (modeRefusal m role) _ z) in
-    let z₃ = next-rest (modeRefusal m role) _ z in
-    record {
-      mode = k .0;
-      role-of = k .1;
-      length-of = need-met (lengthOk m n) 2 _ z₃;
-      room = leb→le _ _ (need-met (hasRoom (intervals m n) lent offset) 6 0 (need-rest (lengthOk m n) 2 _ z₃));
-    }
+    let r = need-rest (lengthOk m n) 2 _ (next-rest (modeRefusal m role) _ z) in
+    record { mode = k .0; role-of = k .1; room = leb→le _ _ (need-met (hasRoom (intervals m n) lent offset) 6 0 r) }

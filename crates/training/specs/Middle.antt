@@ -11,14 +11,18 @@ use Rattle.scrambler.specs.Register.{register, pushes}
 use Rattle.scrambler.specs.Scramble.{scramble}
 use Rattle.training.specs.Training.{spent}
 
--- the register after k middle intervals, in modes 1 and 2 alike
+-- the three line bits of a middle interval, in modes 1 and 2 alike
+abbrev pub three : Register → List ℕ
+three h = scramble 2 0 h (spent 2)
+
+-- the register after k middle intervals
 abbrev pub threes : ℕ → Register
 threes zero = register 0b0111100 7
-threes (suc k) = pushes 2 (threes k) (scramble 2 0 (threes k) (spent 2))
+threes (suc k) = pushes 2 (threes k) (three (threes k))
 
 -- the change of a middle interval: 1 is 180°, 0 is none
 unfoldable pub change : ℕ → ℕ
-change k = getD (scramble 2 0 (threes k) (spent 2)) 0 0
+change k = getD (three (threes k)) 0 0
 
 -- the table's rule, at each of its entries
 pub record MiddleTable (t : List ℕ) : Type 0 where
@@ -27,7 +31,7 @@ pub record MiddleTable (t : List ℕ) : Type 0 where
 -- the test of a whole table, in one pass that carries the register: each entry is the first of the three bits that follow it
 abbrev pub walk : Register → List ℕ → Bool
 walk h [] = true
-walk h (x ∷ xs) = eqb x (getD (scramble 2 0 h (spent 2)) 0 0) && walk (pushes 2 h (scramble 2 0 h (spent 2))) xs
+walk h (x ∷ xs) = eqb x (getD (three h) 0 0) && walk (pushes 2 h (three h)) xs
 
 -- a table of 1,074 entries that passes the test follows the rule at each of them; proved in proofs/MiddleLaws
 abbrev pub TableRule : Type 0

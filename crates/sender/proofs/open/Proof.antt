@@ -1,6 +1,6 @@
 use native.Mathlib.Omega.{arith}
 use lib.ListN.{length}
-use mathlib.Core.Path.{sym, _∙_, ap}
+use mathlib.Core.Path.{sym, _∙_}
 use Rattle.sender.specs.Sender.{senderOf}
 use Rattle.sender.specs.Open.{openRefusal, opened, trainingNumbers, openAnswer, openNumbers}
 use Rattle.sender.proofs.OpenLaws.{open-ok}
@@ -40,7 +40,7 @@ same-length c = search needs
 
 returns-2 : tie.Need-returns-2
 unfolding openAnswer openNumbers opened
-returns-2 c = let z = open-ok _ _ _ _ _ (sym (c .before .before .before .before .before .open-refusal .ensures) ∙ c .before .before .before .before .if1 .left) .room in let a = c .before .before .before .before .before .before .args in call-done (openRefusal (a .mode) (a .role) (a .length) (length (a .out .now)) (a .offset)) (opened (a .mode) (a .role) (a .length)) (a .out .now) (a .offset) (trainingNumbers (a .mode) (a .role) (a .length)) _ _ _ (c .before .before .before .before .before .open-refusal .ensures) (c .before .before .before .before .if1 .left) (omega arith) (ap (senderOf (a .mode) (a .role)) (c .before .before .write-training .ensures .0)) (c .before .before .write-training .ensures .1)
+returns-2 c = let z = open-ok _ _ _ _ _ (sym (c .before .before .before .before .before .open-refusal .ensures) ∙ c .before .before .before .before .if1 .left) .room in let a = c .before .before .before .before .before .before .args in call-done (openRefusal (a .mode) (a .role) (a .length) (length (a .out .now)) (a .offset)) (opened (a .mode) (a .role) (a .length)) (a .out .now) (a .offset) (trainingNumbers (a .mode) (a .role) (a .length)) _ _ _ (c .before .before .before .before .before .open-refusal .ensures) (c .before .before .before .before .if1 .left) (omega arith) (λ i. senderOf (a .mode) (a .role) (c .before .before .write-training .ensures .0 i)) (c .before .before .write-training .ensures .1)
 
 pub open-spec : {M : Type 1} → statement M
 open-spec =
