@@ -10,8 +10,10 @@ use lib.Signed.{leZ}
 use lib.ListN.{length, getD, drop, length-drop, drop-of-length-le}
 use lib.Seq.{drop-cons}
 use Rattle.line.specs.declared.Point.{Point}
+use Rattle.line.specs.Table.{Tabled}
 use Rattle.line.specs.Mode.{byMode}
-use Rattle.line.specs.Point.{at, pairs, coordinateIn, coordinatesIn, sent27, sent32, sentPoint}
+use Rattle.line.proofs.ByMode.{mode-short, mode-long}
+use Rattle.line.specs.Point.{at, pairs, coordinateIn, coordinatesIn, sent27, levels32, sent32, sentPoint}
 
 -- the two tests of a coordinate
 pub coordinate-in : (x : ℤ) → (leZ (negsuc 16383) x && leZ x (pos 16384)) ≡ coordinateIn x
@@ -55,3 +57,16 @@ unfolding sentPoint
 sent-round m s =
     ap₂ (λ (i j : ℕ). let v27 : Point = getD sent27 i (at (pos 0) (pos 0)) in let v32 : Point = getD sent32 j (at (pos 0) (pos 0)) in byMode m v27 v27 v32 v32)
     (let e : s % 16 % 8 ≡ s % 8 = omega arith in e) (let e : s % 16 % 16 ≡ s % 16 = omega arith in e)
+
+-- the constellations of the two families
+pub short-point : (m s : ℕ) → m ≤ 2 → getD sent27 (s % 8) (at (pos 0) (pos 0)) ≡ sentPoint m s
+unfolding sentPoint
+short-point m s h = sym (mode-short _ _ m h)
+
+pub long-points : (m : ℕ) → 2 < m → Tabled 16 (sentPoint m) (at (pos 0) (pos 0)) sent32
+unfolding sentPoint
+long-points m h =
+    record {
+      size = unfold sent32 levels32 in refl;
+      at = λ i l. ap (λ (k : ℕ). getD sent32 k (at (pos 0) (pos 0))) (let e : i ≡ i % 16 = omega arith in e) ∙ sym (mode-long _ _ m h);
+    }

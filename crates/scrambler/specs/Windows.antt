@@ -1,4 +1,4 @@
--- How the code mixes a group at once: w is at most a, so that no bit of a group depends on another of the same group.
+-- For the contract of a private function only. How the code mixes a group at once: w is at most a, so that no bit of a group depends on another of the same group.
 -- Nobody need believe this file: the laws `scramble-at-once` and `unmixed-at-once` of proofs/WindowLaws say that it is `scramble`
 -- and what `descramble` xors.
 use Prim.Native.Nat.{ℕ, _-_, _^_, _/_, _%_}
