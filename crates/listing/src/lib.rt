@@ -11,6 +11,7 @@ use receiver::Outcome;
 use receiver::Receiver;
 use receiver::Reference;
 use receiver::receive_gap;
+use store::Inspected;
 ghost use mathlib.Core.Path.{_≡_};
 ghost use mathlib.Core.Bool.{true, cond};
 ghost use Prim.Native.Nat.{_+_, _*_, _-_, _/_, _%_, _^_, _≤_, _<_};
@@ -288,15 +289,14 @@ pub fn list(store: &[u8], out: &mut [u8]) -> Listed
             count: 0,
         };
     }
-    let v = store::inspect(store);
-    if v.number == 0 {
-        return Listed {
+    match store::inspect(store) {
+        Inspected::Refused(number) => Listed {
+            number: 0,
+            count: put_refused(out, number),
+        },
+        Inspected::Accepted(v) => Listed {
             number: 0,
             count: put_track(store, out, v.total as u32),
-        };
-    }
-    Listed {
-        number: 0,
-        count: put_refused(out, v.number),
+        },
     }
 }

@@ -5,7 +5,6 @@ use mathlib.Core.Bool.{Bool, true, false, cond}
 use mathlib.Core.List.{List, [], _∷_, _++_, map, map-append, append-assoc}
 use mathlib.Core.Logic.{⊎-elim}
 use native.Mathlib.Omega.{arith}
-use borrow.Author.Tests.{eq-eqb}
 use lib.Dec.{T, eqb, leb, leb→le}
 use lib.IntN.{ℤ, pos}
 use lib.ListN.{length, getD, take, drop, length-map, length-append}
@@ -34,7 +33,7 @@ use Rattle.store.specs.Layout as Stored
 use Rattle.octets.proofs.Sets.{getD-sets-in}
 use Rattle.line.specs.Refusal.{orNext}
 use Rattle.store.specs.Store.{events, refusal}
-use Rattle.store.specs.Reading.{numbers, readNumber, readCount, readResult}
+use Rattle.store.specs.Reads.{numbers, readNumber, readCount, readResult}
 use Rattle.track.specs.Calls.{after, accepted}
 use Rattle.track.proofs.CallLaws.{Run, calls-law}
 use Rattle.resync.specs.Assured.{assuredPoint, dataFrom}
@@ -90,7 +89,7 @@ reading-gives : (s : List ℕ) (lent : List ℤ) (offset : ℕ) → refusal s �
     → eventsIn (readResult s lent offset) offset (readCount s (length lent) offset) ≡ map onLine (events s)
 unfolding readResult readCount
 reading-gives s lent offset ok z =
-    rw (eq-eqb (readNumber s (length lent) offset) 0 z)
+    rw z
     (events-read (sets lent offset (numbers (events s))) offset (events s)
     (stands-written lent (numbers (events s)) offset (let l = numbers-long (events s) in let r = room z in omega arith)))
   where
