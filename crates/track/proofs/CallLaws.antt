@@ -1,15 +1,24 @@
 -- Lists of appends to an accepted store: reading gives the events held at the start and those of the accepted appends. Assumes nothing.
 use mathlib.Core.Path.{_≡_, refl, sym, ap, _∙_, subst}
+use mathlib.Core.Bool.{true}
 use mathlib.Core.List.{List, [], _∷_, _++_, append-assoc, append-nil}
-use Prim.Native.Nat.{ℕ, _+_}
+use Prim.Native.Nat.{ℕ, zero, suc, _+_, _*_, _≤_}
 use native.Mathlib.Omega.{arith}
-use borrow.Author.Tests.{eqb-true, eqb-false}
-use lib.Dec.{eqb}
-use lib.ListN.{length}
+use borrow.Author.Tests.{eqb-true, eqb-false, le-leb}
+use lib.Dec.{eqb, leb}
+use lib.ListN.{length, drop}
+use lib.IntN.{ℤ}
+use lib.Seq.{sets}
 use Rattle.octets.proofs.Tests.{by-test, left-kept}
-use Rattle.store.specs.Layout.{Event, point, lost}
-use Rattle.store.specs.Store.{events, total, refusal}
-use Rattle.track.specs.Calls.{callNumber, callResult, intervals, after, taken}
+use Rattle.store.specs.Chain.{sumOver, gather}
+use Rattle.store.specs.Layout.{Event, point, lost, rec, held, isPoints, points, spanOf, eventsOf}
+use Rattle.store.specs.Reads.{numbers, readNumber, readCount, readResult}
+use Rattle.store.proofs.Sounds.{accepted-sound}
+use Rattle.store.specs.Store.{chain, events, total, refusal}
+use Rattle.octets.specs.Number.{u32}
+use Rattle.track.specs.Append.{makeResult}
+use Rattle.track.proofs.Makes.{make-law}
+use Rattle.track.specs.Calls.{callNumber, callResult, intervals, intervalsOf, after, taken, Holds, AppendsRead, MadeEmpty, MadeRead, TotalGrows, TotalSums}
 use Rattle.track.proofs.Appends.{Appended, lost-law}
 use Rattle.track.proofs.Answers.{lost-free, lost-done, lost-kept, point-done, point-kept}
 use Rattle.track.proofs.Places.{point-appended}
@@ -46,3 +55,53 @@ calls-law s (e ∷ es) acc =
     }))
     (λ t. let h = eqb-false (callNumber s e) 0 t in
     rw (← left-kept (callNumber s e) (e ∷ taken (callResult s e) es) (taken (callResult s e) es) h, refused-law s e h) (calls-law s es acc))
+
+-- reading an accepted store into lent numbers that suffice
+held-read : (s : List ℕ) (es : List Event) → refusal s ≡ 0 → events s ≡ es → Holds s es
+unfolding readNumber readCount readResult
+held-read s es acc e =
+    record {
+      accepted-yet = acc;
+      events-are = e;
+      read = λ out offset h.
+          let p : leb offset (length out) ≡ true = le-leb offset (length out) (omega arith) in
+          let q : leb (offset + 3 * length es) (length out) ≡ true = le-leb (offset + 3 * length es) (length out) h in
+          (rw (e, p, acc, q), rw (e, p, acc, q), rw (e, p, acc, q));
+    }
+
+pub appends-read : AppendsRead
+appends-read s es acc = let r = calls-law s es acc in held-read (after s es) (events s ++ taken s es) (r .accepted-yet) (r .events-are)
+
+pub made-empty : MadeEmpty
+made-empty s mode role e = let m = make-law s mode role e in held-read (makeResult s mode role) [] (m .accepted) (m .no-events)
+
+pub made-read : MadeRead
+made-read s mode role es e =
+    let t : List ℕ = makeResult s mode role in
+    let m = make-law s mode role e in
+    subst (Holds (after t es)) (ap (λ (l : List Event). l ++ taken t es) (m .no-events)) (appends-read t es (m .accepted))
+
+-- ---- the total
+pub total-grows : TotalGrows
+total-grows s e z = append-law s e z .total-is
+
+intervals-append : (xs ys : List Event) → intervalsOf (xs ++ ys) ≡ intervalsOf xs + intervalsOf ys
+intervals-append [] ys = omega arith
+intervals-append (x ∷ xs) ys = omega (arith, intervals-append xs ys)
+
+intervals-points : (bs : List ℕ) (n : ℕ) → intervalsOf (points bs n) ≡ n
+intervals-points bs zero = refl
+intervals-points bs (suc n) = omega (arith, intervals-points (drop 4 bs) n)
+
+span-events : (r : List ℕ) → spanOf r ≡ intervalsOf (eventsOf r)
+unfolding spanOf eventsOf
+span-events r = by-test (isPoints r) (λ t. rw t (sym (intervals-points (drop 4 r) (held r)))) (λ t. rw t (omega arith))
+
+sum-events : (s c : List ℕ) → sumOver (λ i. spanOf (rec s i)) c ≡ intervalsOf (gather (λ i. eventsOf (rec s i)) c)
+sum-events s [] = refl
+sum-events s (i ∷ c) =
+    omega (arith, sum-events s c, span-events (rec s i), intervals-append (eventsOf (rec s i)) (gather (λ i. eventsOf (rec s i)) c))
+
+pub total-sums : TotalSums
+unfolding events
+total-sums s acc = accepted-sound s acc .sum ∙ sum-events s (chain s)

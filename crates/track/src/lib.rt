@@ -1,8 +1,8 @@
 // The track store: making it, and appending points and lost intervals. Document 01, "Track store".
 use line::all_in_range;
-use line::mode_ok;
+use line::mode_fault;
 use line::need;
-use line::role_ok;
+use line::or_next;
 use octets::clear;
 use octets::get8;
 use octets::pattern_of;
@@ -50,11 +50,7 @@ fn put_head(store: &mut [u8], mode: u8, role: u8)
 pub fn make(store: &mut [u8], mode: u8, role: u8) -> u8
     ensures { λ r. ⌜ (r ≡ makeNumber (now (store .entry)) mode role) × (now (store .exit) ≡ makeResult (now (store .entry)) mode role) ⌝ }
 {
-    let number = need(
-        mode_ok(mode),
-        1,
-        need(role_ok(mode, role), 2, need(size_ok(store), 11, 0)),
-    );
+    let number = or_next(mode_fault(mode, role), need(size_ok(store), 11, 0));
     if number == 0 {
         put_head(store, mode, role);
     }
