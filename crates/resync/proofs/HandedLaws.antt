@@ -24,7 +24,7 @@ use Rattle.store.specs.Layout as Stored
 use Rattle.octets.proofs.Sets.{getD-sets-in}
 use Rattle.store.specs.Store.{events, refusal}
 use Rattle.store.specs.Reads.{numbers, readNumber, readCount, readResult}
-use Rattle.track.specs.Calls.{after, accepted}
+use Rattle.track.specs.Calls.{after, taken}
 use Rattle.track.proofs.CallLaws.{Run, calls-law}
 use Rattle.resync.specs.Assured.{assuredPoint, dataFrom}
 use Rattle.resync.specs.DataPoints.{Consecutive, received, appended, eventIn, eventsIn, ReadBack, Handed, givenFrom}
@@ -96,7 +96,7 @@ handed-as-written ds es = ⊎-elim (λ e. e) back
   where
     back : ReadBack ds es → es ≡ received ds
     back r =
-        let run : Run (r .store) (after (r .store) (r .appends)) (accepted (r .store) (r .appends)) = calls-law (r .store) (r .appends) (r .store-accepted) in
+        let run : Run (r .store) (after (r .store) (r .appends)) (taken (r .store) (r .appends)) = calls-law (r .store) (r .appends) (r .store-accepted) in
         let s : List ℕ = after (r .store) (r .appends) in
         let front : List Stored.Event = events (r .store) ++ r .earlier in
         let all : events s ≡ front ++ (appended ds ++ r .later) =

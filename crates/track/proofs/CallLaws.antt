@@ -1,20 +1,24 @@
 -- Lists of appends to an accepted store: reading gives the events held at the start and those of the accepted appends. Assumes nothing.
 use mathlib.Core.Path.{_≡_, refl, sym, ap, _∙_, subst}
-use mathlib.Core.Bool.{Bool, true, false, cond}
-use mathlib.Core.List.{List, [], _∷_, _++_, map, append-assoc, append-nil}
-use Prim.Native.Nat.{ℕ, _+_}
+use mathlib.Core.Bool.{true}
+use mathlib.Core.List.{List, [], _∷_, _++_, append-assoc, append-nil}
+use Prim.Native.Nat.{ℕ, zero, suc, _+_, _*_, _≤_}
 use native.Mathlib.Omega.{arith}
-use borrow.Author.Tests.{eqb-true, eqb-false}
-use lib.Dec.{eqb}
-use lib.ListN.{length}
-use Rattle.octets.proofs.Tests.{by-test}
-use Rattle.store.specs.Layout.{Event, point, lost}
-use Rattle.store.specs.Store.{events, total, refusal}
-use Rattle.track.specs.Append.{pointResult, pointNumber, lostResult, lostNumber}
-use Rattle.line.specs.declared.Point.{Point}
-use Rattle.line.proofs.RefusalLaws.{or-zero}
-use Rattle.track.specs.Points.{eachNumber, eachResult}
-use Rattle.track.specs.Calls.{callNumber, callResult, intervals, after, accepted}
+use borrow.Author.Tests.{eqb-true, eqb-false, le-leb}
+use lib.Dec.{eqb, leb}
+use lib.ListN.{length, drop}
+use lib.IntN.{ℤ}
+use lib.Seq.{sets}
+use Rattle.octets.proofs.Tests.{by-test, left-kept}
+use Rattle.store.specs.Chain.{sumOver, gather}
+use Rattle.store.specs.Layout.{Event, point, lost, rec, held, isPoints, points, spanOf, eventsOf}
+use Rattle.store.specs.Reads.{numbers, readNumber, readCount, readResult}
+use Rattle.store.proofs.Sounds.{accepted-sound}
+use Rattle.store.specs.Store.{chain, events, total, refusal}
+use Rattle.octets.specs.Number.{u32}
+use Rattle.track.specs.Append.{makeResult}
+use Rattle.track.proofs.Makes.{make-law}
+use Rattle.track.specs.Calls.{callNumber, callResult, intervals, intervalsOf, after, taken, Holds, AppendsRead, MadeEmpty, MadeRead, TotalGrows, TotalSums}
 use Rattle.track.proofs.Appends.{Appended, lost-law}
 use Rattle.track.proofs.Answers.{lost-free, lost-done, lost-kept, point-done, point-kept}
 use Rattle.track.proofs.Places.{point-appended}
@@ -37,28 +41,67 @@ pub record Run (s s′ : List ℕ) (es : List Event) : Type 0 where
   pub events-are : events s′ ≡ events s ++ es
   pub long : length s′ ≡ length s
 
-pub calls-law : (s : List ℕ) (es : List Event) → refusal s ≡ 0 → Run s (after s es) (accepted s es)
+pub calls-law : (s : List ℕ) (es : List Event) → refusal s ≡ 0 → Run s (after s es) (taken s es)
 calls-law s [] acc = record { accepted-yet = acc; events-are = sym (append-nil (events s)); long = refl }
 calls-law s (e ∷ es) acc =
     by-test (eqb (callNumber s e) 0)
-    (λ t. let d = append-law s e (eqb-true (callNumber s e) 0 t) in
+    (λ t. let z = eqb-true (callNumber s e) 0 t in
+    let d = append-law s e z in
     let r = calls-law (callResult s e) es (d .accepted) in
-    rw t (record {
+    rw z (record {
       accepted-yet = r .accepted-yet;
-      events-are = r .events-are ∙ ap (λ (x : List Event). x ++ accepted (callResult s e) es) (d .events-are) ∙ append-assoc (events s) (e ∷ []) (accepted (callResult s e) es);
+      events-are = r .events-are ∙ ap (λ (x : List Event). x ++ taken (callResult s e) es) (d .events-are) ∙ append-assoc (events s) (e ∷ []) (taken (callResult s e) es);
       long = r .long ∙ d .long;
     }))
-    (λ t. rw (t, refused-law s e (eqb-false (callNumber s e) 0 t)) (calls-law s es acc))
+    (λ t. let h = eqb-false (callNumber s e) 0 t in
+    rw (← left-kept (callNumber s e) (e ∷ taken (callResult s e) es) (taken (callResult s e) es) h, refused-law s e h) (calls-law s es acc))
 
--- many points by one call: their events, in order
-pub points-law : (s : List ℕ) (ps : List Point) → refusal s ≡ 0 → eachNumber s ps ≡ 0 → Run s (eachResult s ps) (map point ps)
-points-law s [] acc e = record { accepted-yet = acc; events-are = sym (append-nil (events s)); long = refl }
-points-law s (p ∷ ps) acc e =
-    let z = or-zero (pointNumber s p) (eachNumber (pointResult s p) ps) e in
-    let d = append-law s (point p) (z .0) in
-    let r = points-law (pointResult s p) ps (d .accepted) (z .1) in
+-- reading an accepted store into lent numbers that suffice
+held-read : (s : List ℕ) (es : List Event) → refusal s ≡ 0 → events s ≡ es → Holds s es
+unfolding readNumber readCount readResult
+held-read s es acc e =
     record {
-      accepted-yet = r .accepted-yet;
-      events-are = r .events-are ∙ ap (λ (x : List Event). x ++ map point ps) (d .events-are) ∙ append-assoc (events s) (point p ∷ []) (map point ps);
-      long = r .long ∙ d .long;
+      accepted-yet = acc;
+      events-are = e;
+      read = λ out offset h.
+          let p : leb offset (length out) ≡ true = le-leb offset (length out) (omega arith) in
+          let q : leb (offset + 3 * length es) (length out) ≡ true = le-leb (offset + 3 * length es) (length out) h in
+          (rw (e, p, acc, q), rw (e, p, acc, q), rw (e, p, acc, q));
     }
+
+pub appends-read : AppendsRead
+appends-read s es acc = let r = calls-law s es acc in held-read (after s es) (events s ++ taken s es) (r .accepted-yet) (r .events-are)
+
+pub made-empty : MadeEmpty
+made-empty s mode role e = let m = make-law s mode role e in held-read (makeResult s mode role) [] (m .accepted) (m .no-events)
+
+pub made-read : MadeRead
+made-read s mode role es e =
+    let t : List ℕ = makeResult s mode role in
+    let m = make-law s mode role e in
+    subst (Holds (after t es)) (ap (λ (l : List Event). l ++ taken t es) (m .no-events)) (appends-read t es (m .accepted))
+
+-- ---- the total
+pub total-grows : TotalGrows
+total-grows s e z = append-law s e z .total-is
+
+intervals-append : (xs ys : List Event) → intervalsOf (xs ++ ys) ≡ intervalsOf xs + intervalsOf ys
+intervals-append [] ys = omega arith
+intervals-append (x ∷ xs) ys = omega (arith, intervals-append xs ys)
+
+intervals-points : (bs : List ℕ) (n : ℕ) → intervalsOf (points bs n) ≡ n
+intervals-points bs zero = refl
+intervals-points bs (suc n) = omega (arith, intervals-points (drop 4 bs) n)
+
+span-events : (r : List ℕ) → spanOf r ≡ intervalsOf (eventsOf r)
+unfolding spanOf eventsOf
+span-events r = by-test (isPoints r) (λ t. rw t (sym (intervals-points (drop 4 r) (held r)))) (λ t. rw t (omega arith))
+
+sum-events : (s c : List ℕ) → sumOver (λ i. spanOf (rec s i)) c ≡ intervalsOf (gather (λ i. eventsOf (rec s i)) c)
+sum-events s [] = refl
+sum-events s (i ∷ c) =
+    omega (arith, sum-events s c, span-events (rec s i), intervals-append (eventsOf (rec s i)) (gather (λ i. eventsOf (rec s i)) c))
+
+pub total-sums : TotalSums
+unfolding events
+total-sums s acc = accepted-sound s acc .sum ∙ sum-events s (chain s)

@@ -11,10 +11,10 @@ use Rattle.octets.specs.Number.{u16, u32}
 use Rattle.octets.proofs.Sets.{take-sets-in}
 use Rattle.store.specs.Chain.{gather}
 use Rattle.store.specs.Layout.{count, rec, totalAt, firstAt, next, eventsOf}
-use Rattle.line.specs.Refusal.{need}
+use Rattle.line.specs.Refusal.{need, modeRefusal}
 use Rattle.store.specs.Store.{events, total, mark, sizeOk, hasMark, headOk, refusal}
 use Rattle.track.specs.Append.{made, makeNumber, makeResult}
-use Rattle.line.proofs.RefusalLaws.{need-zero}
+use Rattle.line.proofs.RefusalLaws.{need-zero, or-zero}
 use Rattle.store.proofs.Sounds.{Sound, sound-accepted, sound-chain, size-sized}
 use Rattle.track.proofs.Answers.{make-done}
 
@@ -34,12 +34,12 @@ unfolding made
 made-long n mode role = length-sets (replicate n 0) 0 (opening mode role) ∙ length-replicate n 0
 
 made-sound : (s : List ℕ) (mode role : ℕ) → makeNumber s mode role ≡ 0 → Sound (made (length s) mode role) []
-unfolding makeNumber next total headOk hasMark
+unfolding makeNumber modeRefusal next total headOk hasMark
 made-sound s mode role e =
-    let last : ℕ = need (sizeOk s) 11 0 in
-    let m = need-zero (isMode mode) 1 (need (isRole mode role) 2 last) (omega arith) e in
-    let r = need-zero (isRole mode role) 2 last (omega arith) (m .1) in
-    let z = size-sized s (need-zero (sizeOk s) 11 0 (omega arith) (r .1) .0) in
+    let n = or-zero (modeRefusal mode role) (need (sizeOk s) 11 0) e in
+    let m = need-zero (isMode mode) 1 (need (isRole mode role) 2 0) (omega arith) (n .0) in
+    let r = need-zero (isRole mode role) 2 0 (omega arith) (m .1) in
+    let z = size-sized s (need-zero (sizeOk s) 11 0 (omega arith) (n .1) .0) in
     let t : List ℕ = made (length s) mode role in
     let l : length t ≡ length s = made-long (length s) mode role in
     let c : count t ≡ count s = ap (λ (k : ℕ). k / 32) l in

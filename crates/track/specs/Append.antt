@@ -7,12 +7,11 @@ use lib.Dec.{eqb, ltb, leb}
 use lib.ListN.{length, replicate}
 use lib.Seq.{sets}
 use Rattle.line.specs.declared.Point.{Point}
-use Rattle.line.specs.Mode.{isMode, isRole}
 use Rattle.line.specs.Point.{inRange}
 use Rattle.octets.specs.Number.{le16, le32}
 use Rattle.store.specs.Chain.{lastOf, greatest}
 use Rattle.store.specs.Layout.{count, rec, write, linkIn, totalAt, isPoints, held, lostRecord, pointBytes, pointRecord}
-use Rattle.line.specs.Refusal.{need, orNext, accepted}
+use Rattle.line.specs.Refusal.{need, orNext, accepted, modeRefusal}
 use Rattle.store.specs.Store.{chain, lastIn, total, mark, sizeOk, refusal}
 
 -- making a store zeroes it and writes record 0
@@ -20,7 +19,7 @@ unfoldable pub made : ℕ → ℕ → ℕ → List ℕ
 made n mode role = sets (replicate n 0) 0 (mark ++ (mode ∷ role ∷ []))
 
 unfoldable pub makeNumber : List ℕ → ℕ → ℕ → ℕ
-makeNumber s mode role = need (isMode mode) 1 (need (isRole mode role) 2 (need (sizeOk s) 11 0))
+makeNumber s mode role = orNext (modeRefusal mode role) (need (sizeOk s) 11 0)
 
 unfoldable pub makeResult : List ℕ → ℕ → ℕ → List ℕ
 makeResult s mode role = accepted (makeNumber s mode role) (made (length s) mode role) s

@@ -1,23 +1,20 @@
-use Rattle.track.proofs.Answers.{make-done, make-kept}
-use Rattle.track.specs.Append.{makeNumber}
 use denote.Ref.{now}
-use mathlib.Core.Path.{_≡_, refl, sym, ap, _∙_}
+use mathlib.Core.Path.{_≡_, sym, _∙_}
+use Rattle.track.specs.Append.{makeNumber}
+use Rattle.track.proofs.Answers.{make-done, make-kept}
 use borrow.Author.Needs.{needs}
 use Rattle.track.proofs.make.Statement.{statement}
 use Rattle.track.proofs.make.Tie as tie
 use Rattle.track.proofs.make.Reads as reads
 use Rattle.track.proofs.make.Lts as lts
-use Rattle.line.proofs.mode_ok.Reads as mode-ok-reads
-use Rattle.line.proofs.role_ok.Reads as role-ok-reads
+use Rattle.line.proofs.mode_fault.Reads as mode-fault-reads
 use Rattle.line.proofs.need.Reads as need-reads
-use Rattle.track.proofs.put_head.Reads as put-head-reads
+use Rattle.line.proofs.or_next.Reads as or-next-reads
 use Rattle.store.proofs.size_ok.Reads as size-ok-reads
+use Rattle.track.proofs.put_head.Reads as put-head-reads
 
-mode-ok-requires : tie.Need-mode-ok-requires
-mode-ok-requires c κs = search needs
-
-role-ok-requires : tie.Need-role-ok-requires
-role-ok-requires c κs = search needs
+mode-fault-requires : tie.Need-mode-fault-requires
+mode-fault-requires c κs = search needs
 
 size-ok-requires : tie.Need-size-ok-requires
 size-ok-requires c κs = search needs
@@ -25,11 +22,8 @@ size-ok-requires c κs = search needs
 need-requires : tie.Need-need-requires
 need-requires c κs = search needs
 
-need-requires-2 : tie.Need-need-requires-2
-need-requires-2 c κs = search needs
-
-need-requires-3 : tie.Need-need-requires-3
-need-requires-3 c κs = search needs
+or-next-requires : tie.Need-or-next-requires
+or-next-requires c κs = search needs
 
 put-head-requires : tie.Need-put-head-requires
 put-head-requires c κs = search needs
@@ -39,29 +33,23 @@ same-length c = search needs
 
 returns : tie.Need-returns
 unfolding makeNumber
-returns c = let a = c .before .before .before .before .before .before .before .before .before .before .before .before .before .args in
-    let n : c .before .before .before .before .before .need3 .result ≡ makeNumber (now (a .store)) (a .mode) (a .role) = cc in
-    (n, c .before .before .put-head .ensures ∙ make-done (now (a .store)) (a .mode) (a .role) (sym n ∙ c .before .before .before .before .if1 .taken))
+returns c = let a = c .before .before .before .before .before .before .before .before .before .before .before .args in let n : c .before .before .before .before .before .or-next .result ≡ makeNumber (now (a .store)) (a .mode) (a .role) = cc in (n, c .before .before .put-head .ensures ∙ make-done (now (a .store)) (a .mode) (a .role) (sym n ∙ c .before .before .before .before .if1 .taken))
 
 same-length-2 : tie.Need-same-length-2
 same-length-2 c = search needs
 
 returns-2 : tie.Need-returns-2
 unfolding makeNumber
-returns-2 c = let a = c .before .before .before .before .before .before .before .before .before .args in
-    let n : c .before .need3 .result ≡ makeNumber (now (a .store)) (a .mode) (a .role) = cc in
-    (n, make-kept (now (a .store)) (a .mode) (a .role) (λ e. c .if1 .left (n ∙ e)))
+returns-2 c = let a = c .before .before .before .before .before .before .before .args in let n : c .before .or-next .result ≡ makeNumber (now (a .store)) (a .mode) (a .role) = cc in (n, make-kept (now (a .store)) (a .mode) (a .role) (λ e. c .if1 .left (n ∙ e)))
 
 pub make-spec : {M : Type 1} → statement M
 make-spec =
     tie.close
     (tie.spec
-    mode-ok-requires
-    role-ok-requires
+    mode-fault-requires
     size-ok-requires
     need-requires
-    need-requires-2
-    need-requires-3
+    or-next-requires
     put-head-requires
     same-length
     returns
