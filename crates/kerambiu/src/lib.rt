@@ -1,10 +1,11 @@
 // The calls for C and Rust, by their exported names. What each does is in the crates that it calls; include/kerambiu.h declares them.
 use listing::Listed;
+use store::Readout;
 ghost use mathlib.Core.Path.{_≡_};
 ghost use lib.ListN.{length as size};
 ghost use Rattle.line.specs.Point.{at};
 ghost use Rattle.receiver.specs.Receiver.{point, gap};
-ghost use Rattle.store.specs.Reading.{readNumber, readCount, readResult};
+ghost use Rattle.store.specs.Reads.{readNumber, readCount, readResult};
 ghost use Rattle.track.specs.Append.{makeNumber, makeResult, lostNumber, lostResult, pointNumber, pointResult};
 ghost use Rattle.track.specs.Points.{pointsNumber, pointsResult};
 ghost use Rattle.listing.specs.Text.{text, listNumber, listResult};
@@ -135,10 +136,13 @@ pub extern "C" fn kerambiu_read(
         return 7;
     }
     let reading = track::read(store, out, offset);
-    if reading.number == 0 {
-        count[0] = reading.count;
+    match reading {
+        Readout::Refused(number) => number,
+        Readout::Events(events) => {
+            count[0] = events;
+            0
+        }
     }
-    reading.number
 }
 
 // Writes the listing of a store into `out`, and how many bytes it has into `count`: 0, or the number that refuses it.

@@ -11,6 +11,7 @@ use receiver::Outcome;
 use receiver::Receiver;
 use receiver::Reference;
 use receiver::receive_gap;
+use store::Inspected;
 ghost use mathlib.Core.Path.{_≡_};
 ghost use mathlib.Core.Bool.{true, cond};
 ghost use mathlib.Core.List.{map};
@@ -286,9 +287,8 @@ pub fn list(store: &[u8], out: &mut [u8]) -> Listed
     if out.len() < LONGEST {
         return Listed::Refused(7);
     }
-    let v = store::inspect(store);
-    if v.number == 0 {
-        return Listed::Written(put_track(store, out, v.total as u32));
+    match store::inspect(store) {
+        Inspected::Refused(number) => Listed::Written(put_refused(out, number)),
+        Inspected::Accepted(v) => Listed::Written(put_track(store, out, v.total as u32)),
     }
-    Listed::Written(put_refused(out, v.number))
 }

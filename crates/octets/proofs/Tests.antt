@@ -1,9 +1,13 @@
 -- Cases on a test, and tests joined. Assumes nothing.
-use mathlib.Core.Path.{_≡_, refl}
+use mathlib.Core.Path.{_≡_, refl, ap}
 use mathlib.Core.Logic.{_⊎_, inl, inr}
 use mathlib.Core.Bool.{Bool, true, false, _&&_, false≢true}
-use Prim.Native.Nat.{ℕ, _≤_, _<_}
+use mathlib.Core.List.{List, [], _∷_}
+use Prim.Native.Nat.{ℕ, zero, suc, _≤_, _<_}
+use native.Mathlib.Omega.{arith}
 use lib.Dec.{ltb}
+use lib.ListN.{length}
+use Rattle.line.specs.Refusal.{accepted}
 use borrow.Author.Tests.{ltb-true, ltb-false}
 
 -- by cases on a test, with its value
@@ -21,3 +25,16 @@ and-split false b e = absurd (false≢true e)
 pub and-join : (a b : Bool) → a ≡ true → b ≡ true → (a && b) ≡ true
 and-join true b p q = q
 and-join false b p q = p
+
+-- what a call leaves: of an accepted one, of a refused one
+pub left-done : {A : Type 0} (n : ℕ) (a b : A) → n ≡ 0 → a ≡ accepted n a b
+left-done zero a b e = refl
+left-done (suc n) a b e = absurd (omega arith)
+
+pub left-kept : {A : Type 0} (n : ℕ) (a b : A) → (n ≡ 0 → ⊥) → b ≡ accepted n a b
+left-kept zero a b h = absurd (h refl)
+left-kept (suc n) a b h = refl
+
+pub left-none : {A : Type 0} (n : ℕ) (a : A) → accepted n (a ∷ []) [] ≡ [] → n ≡ 0 → ⊥
+left-none zero a e z = let l : _≡_ {A = ℕ} 1 0 = ap length e in omega arith
+left-none (suc n) a e z = omega arith

@@ -23,7 +23,7 @@ use Rattle.sender.proofs.DataLaws.{Made, From, consecutive, decided-made}
 use Rattle.store.specs.Layout as Stored
 use Rattle.octets.proofs.Sets.{getD-sets-in}
 use Rattle.store.specs.Store.{events, refusal}
-use Rattle.store.specs.Reading.{numbers, readNumber, readCount, readResult}
+use Rattle.store.specs.Reads.{numbers, readNumber, readCount, readResult}
 use Rattle.track.specs.Calls.{after, accepted}
 use Rattle.track.proofs.CallLaws.{Run, calls-law}
 use Rattle.resync.specs.Assured.{assuredPoint, dataFrom}
@@ -76,7 +76,7 @@ reading-gives : (s : List ℕ) (lent : List ℤ) (offset : ℕ) → refusal s �
     → eventsIn (readResult s lent offset) offset (readCount s (length lent) offset) ≡ map onLine (events s)
 unfolding readResult readCount
 reading-gives s lent offset ok z =
-    rw (eq-eqb (readNumber s (length lent) offset) 0 z)
+    rw z
     (events-read (sets lent offset (numbers (events s))) offset (events s)
     (stands-written lent (numbers (events s)) offset (let l = numbers-long (events s) in let r = room z in omega arith)))
   where

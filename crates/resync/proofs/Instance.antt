@@ -19,7 +19,7 @@ use Rattle.sender.specs.Sender.{dataRefusal, sendRefusal, grouped, afterGroup, 
 use Rattle.octets.specs.Number.{pattern, signed}
 use Rattle.store.specs.Layout.{recordOk, spanOf, eventsOf, next as nextIndex}
 use Rattle.store.specs.Store.{chain, events, total, sizeOk, hasMark, headOk, chainOk, recordsOk, totalOk, refusal as storeRefusal}
-use Rattle.store.specs.Reading.{readNumber, readCount, readResult}
+use Rattle.store.specs.Reads.{readNumber, readCount, readResult}
 use Rattle.track.specs.Append.{made, hasRoom as recordHasRoom, pointAppended, pointNumber, pointResult}
 use Rattle.resync.specs.DataPoints.{Consecutive, ReadBack, received, appended, eventIn}
 use Rattle.resync.specs.Instance.{sender, call, sent, listA, listB, Premises}

@@ -14,7 +14,7 @@ use Rattle.sender.specs.declared.Sender.{Sender}
 use Rattle.sender.specs.Calls.{Send, DataPoint, dataPoints}
 use Rattle.store.specs.Layout as Stored
 use Rattle.store.specs.Store.{events, refusal}
-use Rattle.store.specs.Reading.{readNumber, readCount, readResult}
+use Rattle.store.specs.Reads.{readNumber, readCount, readResult}
 use Rattle.track.specs.Calls.{after, accepted}
 
 -- "Consecutive ones follow one another in one sender's list, across its calls." The list starts from any state; from one that numbers

@@ -40,16 +40,12 @@ ends-out f b m i h e = ap (λ (k : ℕ). ends f b k i) e ∙ ne-eqb i 0 h
 max-three : (a b c : ℕ) → max a (max b c) ≡ max (max a b) c
 max-three a b c = omega arith
 
-max-below : (a b c : ℕ) → a < 2048 → b < 2048 → c ≡ max a b → c < 2048
-max-below a b c p q e = omega arith
-
 pub record Going (s : List ℕ) (n : ℕ) (t : Trail) (i k : ℕ) : Type 0 where
   pub size : Sized s
   pub counted : n ≡ count s
   pub steps : k ≤ n
   pub open-yet : t .ends ≡ false
   pub room : t .sum ≤ 4294967296 * k
-  pub low : (t .last < 2048) × (t .greatest < 2048)
   pub ending : ends (next s) n n (next s 0) ≡ ends (next s) n (n - k) i
   pub fine : all (λ j. recordOk (rec s j)) (walk (next s) n (next s 0)) ≡ (t .fine && all (λ j. recordOk (rec s j)) (walk (next s) (n - k) i))
   pub sum : sumOver (λ j. spanOf (rec s j)) (walk (next s) n (next s 0)) ≡ t .sum + sumOver (λ j. spanOf (rec s j)) (walk (next s) (n - k) i)
@@ -65,7 +61,6 @@ going-start s i z e =
       steps = omega arith;
       open-yet = refl;
       room = omega arith;
-      low = (omega arith, omega arith);
       ending = simp (sub-zero, e);
       fine = simp (sub-zero, e);
       sum = simp (sub-zero, e) (omega arith);
@@ -87,7 +82,6 @@ going-step s n t t′ i i′ k g nz lt kt p e =
       steps = omega arith;
       open-yet = p .ends ∙ g .open-yet;
       room = omega (arith, g .room, p .room);
-      low = (omega (arith, p .last, g .size .most, g .counted), max-below (t .greatest) i (t′ .greatest) (g .low .1) (omega (arith, g .size .most, g .counted)) (p .most));
       ending = g .ending ∙ v;
       fine = g .fine ∙ ap (λ (c : List ℕ). t .fine && all (λ j. recordOk (rec s j)) c) w ∙ sym (and-assoc (t .fine) (recordOk (rec s i)) (all (λ j. recordOk (rec s j)) (walk (next s) (n - (k + 1)) i′)))
           ∙ ap (λ (x : Bool). x && all (λ j. recordOk (rec s j)) (walk (next s) (n - (k + 1)) i′)) (sym (p .fine));
@@ -110,7 +104,6 @@ going-stops s n t i k g e =
       sum = λ h. absurd (false≢true (sym f ∙ h));
       last = λ h. absurd (false≢true (sym f ∙ h));
       most = λ h. absurd (false≢true (sym f ∙ h));
-      small = g .low;
     }
 
 pub going-past : (s : List ℕ) (n : ℕ) (t : Trail) (i k : ℕ) → Going s n t i k → (i ≡ 0 → ⊥) → n ≤ i → Walked s t
@@ -131,5 +124,4 @@ going-end s n t i k g e =
       sum = λ h. sym (ap (sumOver (λ j. spanOf (rec s j))) c ∙ g .sum ∙ ap (λ (x : List ℕ). t .sum + sumOver (λ j. spanOf (rec s j)) x) w ∙ omega arith);
       last = λ h. sym (ap (lastOf 0) c ∙ g .last ∙ ap (lastOf (t .last)) w);
       most = λ h. sym (ap greatest c ∙ g .most ∙ ap (λ (x : List ℕ). max (t .greatest) (greatest x)) w ∙ omega arith);
-      small = g .low;
     }

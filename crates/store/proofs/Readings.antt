@@ -15,14 +15,19 @@ use mir.Syntax.{w64}
 use mir.Val.{toZ, ofZ}
 use Rattle.line.specs.Point.{at}
 use Rattle.octets.specs.Number.{i16, u32}
-use Rattle.octets.proofs.Tests.{and-split}
+use Rattle.octets.proofs.Tests.{and-split, left-done, left-kept, left-none}
 use Rattle.octets.proofs.Sets.{sets-then}
 use Rattle.store.specs.Chain.{walk, gather}
 use Rattle.store.specs.Layout.{Event, point, lost, count, rec, next, kind, held, isPoints, points, recordOk, eventsOf}
 use Rattle.line.specs.Refusal.{need, orNext}
 use Rattle.store.specs.Store.{chain, events, refusal}
-use Rattle.store.specs.Reading.{numbers, readNumber, readCount, readResult}
-use Rattle.store.specs.Walk.{Sized}
+use Rattle.store.specs.Reads.{numbers, readNumber, readCount, readResult, numberOf, countsOf, Gives}
+use Rattle.store.specs.declared.Readout.{Readout}
+use Rattle.store.specs.declared.Readout.the-variants.{Refused, Events}
+use Rattle.store.specs.Walk.{Sized, Tells}
+use Rattle.store.specs.declared.Inspected.{Inspected}
+use Rattle.store.specs.declared.Inspected.the-variants.{Refused as NotRead}
+use Rattle.store.proofs.Views.{told-refused}
 use Rattle.store.proofs.Chains.{All, ends, run-ends, run-short}
 use Rattle.store.proofs.Going.{walk-step, walk-zero, ends-step}
 use Rattle.store.proofs.PointRuns.{point-at, drop-next}
@@ -220,39 +225,53 @@ counting-end s n k i g e = (
 )
 
 -- ---- the call
+pub read-refused : (s : List ℕ) (out : List ℤ) (offset n : ℕ) → n ≡ readNumber s (length out) offset → (n ≡ 0 → ⊥)
+    → Gives s (length out) offset (Refused n) × (out ≡ readResult s out offset)
+unfolding readResult
+read-refused s out offset n e h =
+    let z : readNumber s (length out) offset ≡ 0 → ⊥ = λ q. h (e ∙ q) in
+    (record { number = e; counts = left-kept _ _ _ z }, left-kept _ _ _ z)
+
 pub read-past : (s : List ℕ) (out : List ℤ) (offset : ℕ) → length out < offset
-    → (7 ≡ readNumber s (length out) offset) × (0 ≡ readCount s (length out) offset) × (out ≡ readResult s out offset)
-unfolding readNumber readCount readResult
+    → Gives s (length out) offset (Refused 7) × (out ≡ readResult s out offset)
 read-past s out offset h =
-    let t : leb offset (length out) ≡ false = lt-leb offset (length out) h in
-    (rw t, rw t, rw t)
+    read-refused s out offset 7 (unfold readNumber in rw (lt-leb offset (length out) h)) (λ z. omega arith)
 
-pub read-refused : (s : List ℕ) (out : List ℤ) (offset n : ℕ) → offset ≤ length out → n ≡ refusal s → (n ≡ 0 → ⊥)
-    → (n ≡ readNumber s (length out) offset) × (0 ≡ readCount s (length out) offset) × (out ≡ readResult s out offset)
-unfolding readNumber readCount readResult
-read-refused s out offset n h e nz =
-    let t : leb offset (length out) ≡ true = le-leb offset (length out) h in
-    let q : orNext (refusal s) (need (leb (offset + 3 * length (events s)) (length out)) 7 0) ≡ n =
-    ap (λ (x : ℕ). orNext x (need (leb (offset + 3 * length (events s)) (length out)) 7 0)) (sym e)
-    ∙ sym (or-some n (need (leb (offset + 3 * length (events s)) (length out)) 7 0) nz) in
-    (rw (t, q), rw (t, q, ne-eqb n 0 nz), rw (t, q, ne-eqb n 0 nz))
+pub read-unread : (s : List ℕ) (out : List ℤ) (offset n : ℕ) (i : Inspected) → offset ≤ length out → Tells s i → i ≡ NotRead n
+    → Gives s (length out) offset (Refused n) × (out ≡ readResult s out offset)
+unfolding readNumber
+read-unread s out offset n i h w q =
+    let few : ℕ = need (leb (offset + 3 * length (events s)) (length out)) 7 0 in
+    let t = told-refused s i n w q in
+    read-refused s out offset n (rw (le-leb offset (length out) h) (or-some n few (t .1) ∙ ap (λ (x : ℕ). orNext x few) (t .0))) (t .1)
 
-pub read-few : (s : List ℕ) (out : List ℤ) (offset : ℕ) → offset ≤ length out → refusal s ≡ 0 → length out < offset + 3 * length (events s)
-    → (7 ≡ readNumber s (length out) offset) × (0 ≡ readCount s (length out) offset) × (out ≡ readResult s out offset)
-unfolding readNumber readCount readResult
-read-few s out offset h acc f =
-    let t : leb offset (length out) ≡ true = le-leb offset (length out) h in
-    let u : leb (offset + 3 * length (events s)) (length out) ≡ false = lt-leb (offset + 3 * length (events s)) (length out) f in
-    (rw (t, acc, u), rw (t, acc, u), rw (t, acc, u))
+module _ (s : List ℕ) (out : List ℤ) (offset : ℕ) (h : offset ≤ length out) (acc : refusal s ≡ 0) where
+  pub read-few : length out < offset + 3 * length (events s) → Gives s (length out) offset (Refused 7) × (out ≡ readResult s out offset)
+  read-few f =
+      read-refused s out offset 7
+      (unfold readNumber in rw (le-leb offset (length out) h, acc, lt-leb (offset + 3 * length (events s)) (length out) f)) (λ z. omega arith)
 
-pub read-done : (s : List ℕ) (out out′ : List ℤ) (offset n : ℕ) → refusal s ≡ 0 → n ≡ length (events s) → offset + 3 * length (events s) ≤ length out
-    → out′ ≡ sets out offset (numbers (events s))
-    → (0 ≡ readNumber s (length out) offset) × (n ≡ readCount s (length out) offset) × (out′ ≡ readResult s out offset)
-unfolding readNumber readCount readResult
-read-done s out out′ offset n acc e f w =
-    let t : leb offset (length out) ≡ true = le-leb offset (length out) (omega arith) in
-    let u : leb (offset + 3 * length (events s)) (length out) ≡ true = le-leb (offset + 3 * length (events s)) (length out) f in
-    (rw (t, acc, u), rw (t, acc, u) e, rw (t, acc, u) w)
+  pub read-done : (n : ℕ) (out′ : List ℤ) → n ≡ length (events s) → offset + 3 * length (events s) ≤ length out
+      → out′ ≡ sets out offset (numbers (events s)) → Gives s (length out) offset (Events n) × (out′ ≡ readResult s out offset)
+  unfolding readCount readResult
+  read-done n out′ e f w =
+      let z : readNumber s (length out) offset ≡ 0 =
+      unfold readNumber in rw (le-leb offset (length out) h, acc, le-leb (offset + 3 * length (events s)) (length out) f) in
+      (record { number = sym z; counts = rw (z, e) }, rw z w)
+
+-- what its cases say
+pub gave-refused : (s : List ℕ) (room offset n : ℕ) (r : Readout) → Gives s room offset r → r ≡ Refused n
+    → (n ≡ readNumber s room offset) × (n ≡ 0 → ⊥)
+gave-refused s room offset n r g e = (
+  ap numberOf (sym e) ∙ g .number,
+  λ z. left-none (readNumber s room offset) (readCount s room offset) (sym (g .counts) ∙ ap countsOf e) (sym (g .number) ∙ ap numberOf e ∙ z),
+)
+
+pub gave-events : (s : List ℕ) (room offset n : ℕ) (r : Readout) → Gives s room offset r → r ≡ Events n
+    → (readNumber s room offset ≡ 0) × (n ≡ readCount s room offset)
+gave-events s room offset n r g e =
+    let z : readNumber s room offset ≡ 0 = sym (g .number) ∙ ap numberOf e in
+    (z, ap (λ l. getD l 0 n) (sym (ap countsOf e) ∙ g .counts ∙ sym (left-done _ (readCount s room offset ∷ []) [] z)))
 
 -- ---- the events of a record written
 pub events-of-points : (r : List ℕ) (out out′ : List ℤ) (p n : ℕ) → kind r ≡ 1 → n ≡ held r

@@ -18,8 +18,8 @@ ghost use Rattle.line.specs.Point.{inRange};
 ghost use Rattle.octets.specs.Number.{i16};
 ghost use Rattle.store.specs.Layout.{rec, linkIn, next, points, pointsOk, recordOk, spanOf, eventsOf};
 ghost use Rattle.store.specs.Store.{events, refusal, sizeOk, hasMark, headOk};
-ghost use Rattle.store.specs.Reading.{numbers, readNumber, readCount, readResult};
-ghost use Rattle.store.specs.Walk.{Sized, Passed, Walked, Viewed};
+ghost use Rattle.store.specs.Reads.{numbers, Gives, readResult};
+ghost use Rattle.store.specs.Walk.{Sized, Passed, Walked, Tells};
 
 // Where record 0 holds the chain's first index and the total.
 const FIRST_AT: usize = 6;
@@ -189,13 +189,16 @@ fn follow(s: &[u8]) -> Trail
     }
 }
 
-// What an append has to know of a store: the number that it is refused with, or 0, and then the chain's last and greatest
-// index and the total.
+// What an append has to know of an accepted store: the chain's last and greatest index, and the total.
 pub struct View {
-    pub number: u8,
     pub last: usize,
     pub greatest: usize,
     pub total: usize,
+}
+
+pub enum Inspected {
+    Refused(u8),
+    Accepted(View),
 }
 
 pub fn size_ok(s: &[u8]) -> bool
@@ -205,39 +208,36 @@ pub fn size_ok(s: &[u8]) -> bool
 }
 
 // A store of a right size.
-fn inspect_sized(s: &[u8]) -> View
+fn inspect_sized(s: &[u8]) -> Inspected
     requires { ⌜ sizeOk (now s) ≡ true ⌝ }
-    ensures { λ v. ⌜ Viewed (now (s .entry)) v ⌝ }
+    ensures { λ r. ⌜ Tells (now (s .entry)) r ⌝ }
 {
     let t = follow(s);
     let total = get32(s, TOTAL_AT);
     let head = head_ok(record_at(s, 0));
-    View {
-        number: need(
-            head,
-            12,
-            need(t.ends, 13, need(t.fine, 14, need(total == t.sum, 15, 0))),
-        ),
+    let number = need(
+        head,
+        12,
+        need(t.ends, 13, need(t.fine, 14, need(total == t.sum, 15, 0))),
+    );
+    if number != 0 {
+        return Inspected::Refused(number);
+    }
+    Inspected::Accepted(View {
         last: t.last,
         greatest: t.greatest,
         total,
-    }
+    })
 }
 
 // The store's numbers, 11 to 15, in one walk.
-pub fn inspect(s: &[u8]) -> View
-    ensures { λ v. ⌜ Viewed (now (s .entry)) v ⌝ }
+pub fn inspect(s: &[u8]) -> Inspected
+    ensures { λ r. ⌜ Tells (now (s .entry)) r ⌝ }
 {
     if size_ok(s) {
-        inspect_sized(s)
-    } else {
-        View {
-            number: 11,
-            last: 0,
-            greatest: 0,
-            total: 0,
-        }
+        return inspect_sized(s);
     }
+    Inspected::Refused(11)
 }
 
 // ---- reading
@@ -329,36 +329,34 @@ fn put_chain(s: &[u8], out: &mut [i64], offset: usize)
     }
 }
 
-// What reading gives: the number that refuses it, or 0, and how many events were written.
-pub struct Reading {
-    pub number: u8,
-    pub count: usize,
+// What reading gives: the number that refuses it, or how many events were written.
+pub enum Readout {
+    Refused(u8),
+    Events(usize),
+}
+
+// Writes all events of an accepted store, if the lent numbers suffice.
+fn read_accepted(store: &[u8], out: &mut [i64], offset: usize) -> Readout
+    requires { ⌜ (refusal (now store) ≡ 0) × (offset ≤ length (now out)) ⌝ }
+    ensures { λ r. ⌜ Gives (now (store .entry)) (length (now (out .entry))) offset r × (now (out .exit) ≡ readResult (now (store .entry)) (now (out .entry)) offset) ⌝ }
+{
+    let count = count_events(store);
+    if out.len() - offset < 3 * count {
+        return Readout::Refused(7);
+    }
+    put_chain(store, out, offset);
+    Readout::Events(count)
 }
 
 // Reads all events, three numbers for each, into the lent numbers from the offset on.
-pub fn read(store: &[u8], out: &mut [i64], offset: usize) -> Reading
-    ensures { λ r. ⌜ (r .number ≡ readNumber (now (store .entry)) (length (now (out .entry))) offset) × (r .count ≡ readCount (now (store .entry)) (length (now (out .entry))) offset) × (now (out .exit) ≡ readResult (now (store .entry)) (now (out .entry)) offset) ⌝ }
+pub fn read(store: &[u8], out: &mut [i64], offset: usize) -> Readout
+    ensures { λ r. ⌜ Gives (now (store .entry)) (length (now (out .entry))) offset r × (now (out .exit) ≡ readResult (now (store .entry)) (now (out .entry)) offset) ⌝ }
 {
     if out.len() < offset {
-        return Reading {
-            number: 7,
-            count: 0,
-        };
+        return Readout::Refused(7);
     }
-    let v = inspect(store);
-    if v.number != 0 {
-        return Reading {
-            number: v.number,
-            count: 0,
-        };
+    match inspect(store) {
+        Inspected::Refused(number) => Readout::Refused(number),
+        Inspected::Accepted(_) => read_accepted(store, out, offset),
     }
-    let count = count_events(store);
-    if out.len() - offset < 3 * count {
-        return Reading {
-            number: 7,
-            count: 0,
-        };
-    }
-    put_chain(store, out, offset);
-    Reading { number: 0, count }
 }

@@ -19,29 +19,45 @@ use Rattle.store.specs.Layout.{count, rec, write, linkIn, totalAt, held, isPoin
 use Rattle.track.specs.Append.{mostIntervals, newIndex, isFull, made, makeNumber, makeResult, lostAppended, lostNumber, lostResult, hasRoom, pointAppended, pointNumber, pointResult}
 use Rattle.line.specs.Refusal.{orNext}
 use Rattle.store.specs.Store.{lastIn}
-use Rattle.store.specs.Walk.{Viewed}
-use Rattle.track.specs.Seen.{spaces, lostSeen, pointSeen}
-use Rattle.octets.proofs.Tests.{by-test, and-split}
-use Rattle.line.proofs.RefusalLaws.{need-zero, or-zero, or-same}
+use Rattle.store.specs.Walk.{Tells, Viewed}
+use Rattle.store.specs.declared.Inspected.{Inspected}
+use Rattle.store.specs.declared.Inspected.the-variants.{Refused}
+use Rattle.store.proofs.Views.{told-refused}
+use Rattle.track.specs.Seen.{spaces, pointSeen}
+use Rattle.octets.proofs.Tests.{by-test, and-split, left-done, left-kept}
+use Rattle.line.proofs.RefusalLaws.{need-zero, or-some, or-zero, or-same}
 use Rattle.store.proofs.Sounds.{Sound, accepted-sound, sound-last, sound-greatest}
 
 -- ---- making
 pub make-done : (s : List ℕ) (mode role : ℕ) → makeNumber s mode role ≡ 0 → made (length s) mode role ≡ makeResult s mode role
 unfolding makeResult
-make-done s mode role e = rw (eq-eqb (makeNumber s mode role) 0 e)
+make-done s mode role e = left-done (makeNumber s mode role) (made (length s) mode role) s e
 
 pub make-kept : (s : List ℕ) (mode role : ℕ) → (makeNumber s mode role ≡ 0 → ⊥) → s ≡ makeResult s mode role
 unfolding makeResult
-make-kept s mode role h = rw (ne-eqb (makeNumber s mode role) 0 h)
+make-kept s mode role h = left-kept (makeNumber s mode role) (made (length s) mode role) s h
 
 -- ---- a lost count
-pub lost-seen : (s : List ℕ) (v : View) (full : Bool) (n x : ℕ) → Viewed s v → full ≡ eqb (v .greatest + 1) (count s)
-    → x ≡ lostSeen (v .number) (v .total) full n → x ≡ lostNumber s n
-unfolding lostSeen lostNumber
-lost-seen s v full n x w f e =
-    let mine : ℕ = need (leb (v .total + n) mostIntervals) 16 (need (not full) 17 0) in
+pub lost-kept : (s : List ℕ) (n : ℕ) → (lostNumber s n ≡ 0 → ⊥) → s ≡ lostResult s n
+unfolding lostResult
+lost-kept s n h = left-kept (lostNumber s n) (lostAppended s n) s h
+
+pub lost-none : (s : List ℕ) (n : ℕ) → n ≡ 0 → (9 ≡ lostNumber s n) × (s ≡ lostResult s n)
+unfolding lostNumber lostResult
+lost-none s n e = (rw e, rw e)
+
+pub lost-refused : (s : List ℕ) (n x : ℕ) (i : Inspected) → (n ≡ 0 → ⊥) → Tells s i → i ≡ Refused x → (x ≡ lostNumber s n) × (s ≡ lostResult s n)
+unfolding lostNumber
+lost-refused s n x i h w q =
+    let t = told-refused s i x w q in
     let rest : ℕ = need (leb (total s + n) mostIntervals) 16 (need (not (isFull s)) 17 0) in
-    e ∙ ap (need (leb 1 n) 9) (or-same (v .number) mine rest (λ z. cc (w .total-is z, w .most z, f)) ∙ ap (λ (x : ℕ). orNext x rest) (w .number))
+    let e : x ≡ lostNumber s n = rw (le-leb 1 n (omega (arith, h))) (or-some x rest (t .1) ∙ ap (λ (y : ℕ). orNext y rest) (t .0)) in
+    (e, lost-kept s n (λ z. t .1 (e ∙ z)))
+
+pub lost-seen : (s : List ℕ) (v : View) (n x : ℕ) → Viewed s v → 1 ≤ n
+    → x ≡ need (leb (v .total + n) mostIntervals) 16 (need (not (eqb (v .greatest + 1) (count s))) 17 0) → x ≡ lostNumber s n
+unfolding lostNumber
+lost-seen s v n x w h e = rw (le-leb 1 n h, w .accepted, ← w .total-is, ← w .most) e
 
 -- what holds of a store that a new record is not refused for
 not-full : (s : List ℕ) → refusal s ≡ 0 → not (isFull s) ≡ true → newIndex (chain s) < count s
@@ -70,25 +86,19 @@ lost-free s n e =
 pub lost-reach : (s : List ℕ) (v : View) (n : ℕ) → Viewed s v → lostNumber s n ≡ 0 → (32 * v .last + 32 ≤ length s) × (32 * (v .greatest + 1) + 32 ≤ length s)
 lost-reach s v n w e =
     let f = lost-free s n e in
-    let z : v .number ≡ 0 = w .number ∙ f .accepted in
     let o = accepted-sound s (f .accepted) in
-    (omega (arith, o .whole, sound-last s o, w .last z), omega (arith, o .whole, f .room, w .most z))
+    (omega (arith, o .whole, sound-last s o, w .last), omega (arith, o .whole, f .room, w .most))
 
 pub lost-done : (s : List ℕ) (n : ℕ) → lostNumber s n ≡ 0 → lostAppended s n ≡ lostResult s n
 unfolding lostResult
-lost-done s n e = rw (eq-eqb (lostNumber s n) 0 e)
+lost-done s n e = left-done (lostNumber s n) (lostAppended s n) s e
 
 -- the writes of an append, from what it looked at
 pub lost-linked : (s s₁ s₂ : List ℕ) (v : View) (r : List ℕ) (n : ℕ) → Viewed s v → lostNumber s n ≡ 0 → r ≡ lostRecord n
     → s₁ ≡ write (write s (v .greatest + 1) 0 r) (v .last) (linkIn (v .last)) (le16 (v .greatest + 1)) → s₂ ≡ sets s₁ 8 (le32 (v .total + n)) → s₂ ≡ lostResult s n
 unfolding lostAppended
 lost-linked s s₁ s₂ v r n w e h p q =
-    let z : v .number ≡ 0 = w .number ∙ lost-free s n e .accepted in
-    q ∙ ap (λ (x : List ℕ). sets x 8 (le32 (v .total + n))) p ∙ rw (w .last z, w .most z, w .total-is z, h) (lost-done s n e)
-
-pub lost-kept : (s : List ℕ) (n : ℕ) → (lostNumber s n ≡ 0 → ⊥) → s ≡ lostResult s n
-unfolding lostResult
-lost-kept s n h = rw (ne-eqb (lostNumber s n) 0 h)
+    q ∙ ap (λ (x : List ℕ). sets x 8 (le32 (v .total + n))) p ∙ rw (w .last, w .most, w .total-is, h) (lost-done s n e)
 
 -- ---- a point
 pub room-less : (s : List ℕ) (i : ℕ) → hasRoom s i ≡ true → held (rec s i) < 7
@@ -96,18 +106,18 @@ unfolding hasRoom
 room-less s i e = ltb-true (held (rec s i)) 7 (and-split (not (eqb i 0) && isPoints (rec s i)) (ltb (held (rec s i)) 7) e .1)
 
 -- the spaces of an accepted store, from what is known of it
-pub room-below : (s : List ℕ) (v : View) → Viewed s v → v .number ≡ 0 → v .greatest + 1 ≤ count s
-room-below s v w z = omega (arith, w .most z, sound-greatest s (accepted-sound s (sym (w .number) ∙ z)))
+pub room-below : (s : List ℕ) (v : View) → Viewed s v → v .greatest + 1 ≤ count s
+room-below s v w = omega (arith, w .most, sound-greatest s (accepted-sound s (w .accepted)))
 
-pub room-in-last : (s : List ℕ) (v : View) (k : ℕ) → Viewed s v → v .number ≡ 0 → hasRoom s (v .last) ≡ true → k ≡ held (rec s (v .last))
+pub room-in-last : (s : List ℕ) (v : View) (k : ℕ) → Viewed s v → hasRoom s (v .last) ≡ true → k ≡ held (rec s (v .last))
     → 7 - k + 7 * (count s - (v .greatest + 1)) ≡ spaces s
 unfolding spaces
-room-in-last s v k w z r e = rw (← w .last z, ← w .most z, r, e)
+room-in-last s v k w r e = rw (← w .last, ← w .most, r, e)
 
-pub room-in-new : (s : List ℕ) (v : View) → Viewed s v → v .number ≡ 0 → hasRoom s (v .last) ≡ false
+pub room-in-new : (s : List ℕ) (v : View) → Viewed s v → hasRoom s (v .last) ≡ false
     → 7 * (count s - (v .greatest + 1)) ≡ spaces s
 unfolding spaces
-room-in-new s v w z r = rw (← w .last z, ← w .most z, r) (omega arith)
+room-in-new s v w r = rw (← w .last, ← w .most, r) (omega arith)
 
 -- there is a space for a point exactly where number 17 does not apply
 spaces-some : (s : List ℕ) → refusal s ≡ 0 → ltb 0 (spaces s) ≡ (hasRoom s (lastIn s) || not (isFull s))
@@ -150,8 +160,8 @@ point-free s p e =
 
 pub point-done : (s : List ℕ) (p : Point) → pointNumber s p ≡ 0 → pointAppended s p ≡ pointResult s p
 unfolding pointResult
-point-done s p e = rw (eq-eqb (pointNumber s p) 0 e)
+point-done s p e = left-done (pointNumber s p) (pointAppended s p) s e
 
 pub point-kept : (s : List ℕ) (p : Point) → (pointNumber s p ≡ 0 → ⊥) → s ≡ pointResult s p
 unfolding pointResult
-point-kept s p h = rw (ne-eqb (pointNumber s p) 0 h)
+point-kept s p h = left-kept (pointNumber s p) (pointAppended s p) s h

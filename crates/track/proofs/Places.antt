@@ -179,28 +179,28 @@ total-over s u t e = (
 )
 
 -- ---- the end of a chain
-pub ends-room : (s : List ℕ) (v : View) (k : ℕ) → Viewed s v → hasRoom s (v .last) ≡ true → k ≡ held (rec s (v .last)) → v .number ≡ 0
+pub ends-room : (s : List ℕ) (v : View) (k : ℕ) → Viewed s v → hasRoom s (v .last) ≡ true → k ≡ held (rec s (v .last))
     → Ends s (v .total) (record { last = v .last; greatest = v .greatest; held = k })
-ends-room s v k w r h z =
+ends-room s v k w r h =
     let less : k < 7 = omega (arith, h, room-less s (v .last) r) in
     record {
-      accepted = sym (w .number) ∙ z;
-      last = w .last z;
-      most = w .most z;
-      total-is = w .total-is z;
+      accepted = w .accepted;
+      last = w .last;
+      most = w .most;
+      total-is = w .total-is;
       small = omega arith;
       room = r ∙ sym (lt-ltb k 7 less);
       holds = λ q. h;
     }
 
-pub ends-full : (s : List ℕ) (v : View) → Viewed s v → hasRoom s (v .last) ≡ false → v .number ≡ 0
+pub ends-full : (s : List ℕ) (v : View) → Viewed s v → hasRoom s (v .last) ≡ false
     → Ends s (v .total) (record { last = v .last; greatest = v .greatest; held = 7 })
-ends-full s v w r z =
+ends-full s v w r =
     record {
-      accepted = sym (w .number) ∙ z;
-      last = w .last z;
-      most = w .most z;
-      total-is = w .total-is z;
+      accepted = w .accepted;
+      last = w .last;
+      most = w .most;
+      total-is = w .total-is;
       small = omega arith;
       room = r;
       holds = λ q. absurd (omega arith);

@@ -13,13 +13,16 @@ use lib.Seq.{sets, length-sets, take-all}
 use Rattle.line.specs.declared.Point.{Point}
 use Rattle.line.specs.Point.{at, pairs, coordinateIn, inRange, coordinatesIn}
 use Rattle.line.proofs.PointLaws.{pairs-step, pairs-end, pairs-length}
-use Rattle.octets.proofs.Tests.{by-test}
+use Rattle.octets.proofs.Tests.{by-test, left-kept}
 use Rattle.octets.specs.Number.{le32}
 use Rattle.store.specs.declared.View.{View}
 use Rattle.track.specs.declared.End.{End}
-use Rattle.line.specs.Refusal.{need, orNext}
+use Rattle.line.specs.Refusal.{need, orNext, accepted}
 use Rattle.store.specs.Store.{total, refusal}
-use Rattle.store.specs.Walk.{Viewed}
+use Rattle.store.specs.Walk.{Tells, Viewed}
+use Rattle.store.specs.declared.Inspected.{Inspected}
+use Rattle.store.specs.declared.Inspected.the-variants.{Refused}
+use Rattle.store.proofs.Views.{told-refused}
 use Rattle.line.proofs.RefusalLaws.{need-zero, or-some, or-zero, or-same}
 use Rattle.store.proofs.Sounds.{accepted-sound, sound-last}
 use Rattle.track.specs.Append.{mostIntervals, pointAppended, pointNumber, pointResult}
@@ -172,16 +175,15 @@ first-free : (s : List ℕ) (zs : List ℤ) (k : ℕ) → k + 1 < length zs → 
 first-free s zs k h e = or-zero _ _ (sym (ap (eachNumber s) (pairs-step zs k h)) ∙ e)
 
 pub placing-start : (s : List ℕ) (v : View) (d : End) (zs : List ℤ) → Viewed s v → eachNumber s (pairs zs) ≡ 0 → 2 ≤ length zs
-    → (v .number ≡ 0 → Ends s (v .total) d) → Placing s s d (v .total) zs 0
+    → Ends s (v .total) d → Placing s s d (v .total) zs 0
 placing-start s v d zs w e h g =
-    let a : refusal s ≡ 0 = point-free s _ (first-free s zs 0 (omega arith) e .0) .accepted in
     record {
       full = s;
       place = omega arith;
       long = refl;
       like = λ z l. refl;
       kept = λ p. absurd (omega arith);
-      ends = g (w .number ∙ a);
+      ends = g;
       fits = w .small .2;
       free = e;
       left = refl;
@@ -236,21 +238,29 @@ pub points-odd : (s : List ℕ) (zs : List ℤ) → (length zs % 2 ≡ 0 → ⊥
 unfolding pointsNumber pointsResult
 points-odd s zs h = (rw (ne-eqb (length zs % 2) 0 h), rw (ne-eqb (length zs % 2) 0 h))
 
-pub points-each : (s : List ℕ) (zs : List ℤ) (v : View) (room x : ℕ) → Viewed s v → (v .number ≡ 0 → room ≡ spaces s)
-    → x ≡ seenNumber (v .number) (v .total) room (pairs zs) → x ≡ eachNumber s (pairs zs)
-points-each s zs v room x w r e = e ∙ each-seen s (v .number) (v .total) room (pairs zs) (w .number) (w .total-is) r
-
 pub points-even : (s : List ℕ) (zs : List ℤ) (x : ℕ) → length zs % 2 ≡ 0 → x ≡ eachNumber s (pairs zs) → x ≡ pointsNumber s zs
 unfolding pointsNumber
 points-even s zs x h e = rw (eq-eqb (length zs % 2) 0 h) e
 
-pub points-done : (s s′ : List ℕ) (zs : List ℤ) → pointsNumber s zs ≡ 0 → s′ ≡ eachResult s (pairs zs) → s′ ≡ pointsResult s zs
-unfolding pointsResult
-points-done s s′ zs e q = rw (eq-eqb (pointsNumber s zs) 0 e) q
+pub points-each : (s : List ℕ) (zs : List ℤ) (v : View) (room x : ℕ) → Viewed s v → room ≡ spaces s
+    → x ≡ seenNumber 0 (v .total) room (pairs zs) → x ≡ eachNumber s (pairs zs)
+points-each s zs v room x w r e = e ∙ each-seen s 0 (v .total) room (pairs zs) (sym (w .accepted)) (λ z. w .total-is) (λ z. r)
 
-pub points-kept : (s : List ℕ) (zs : List ℤ) → (pointsNumber s zs ≡ 0 → ⊥) → s ≡ pointsResult s zs
-unfolding pointsResult
-points-kept s zs h = rw (ne-eqb (pointsNumber s zs) 0 h)
+no-points : (s : List ℕ) (ps : List Point) → (refusal s ≡ 0 → ⊥) → accepted (eachNumber s ps) (eachResult s ps) s ≡ s
+no-points s [] h = refl
+no-points s (p ∷ ps) h =
+    sym (left-kept (eachNumber s (p ∷ ps)) (eachResult s (p ∷ ps)) s (λ z. h (point-free s p (or-zero (pointNumber s p) (eachNumber (pointResult s p) ps) z .0) .accepted)))
+
+pub points-refused : (s : List ℕ) (zs : List ℤ) (n x : ℕ) (i : Inspected) → length zs % 2 ≡ 0 → Tells s i → i ≡ Refused n
+    → x ≡ seenNumber n 0 0 (pairs zs) → (x ≡ pointsNumber s zs) × (s ≡ pointsResult s zs)
+points-refused s zs n x i h w q e =
+    let t = told-refused s i n w q in
+    let y : x ≡ eachNumber s (pairs zs) = e ∙ each-seen s n 0 0 (pairs zs) (t .0) (λ z. absurd (t .1 z)) (λ z. absurd (t .1 z)) in
+    (points-even s zs x h y, unfold pointsResult in (unfold pointsNumber in (rw (eq-eqb (length zs % 2) 0 h) (sym (no-points s (pairs zs) (λ z. t .1 (t .0 ∙ z)))))))
+
+pub points-viewed : (s s′ : List ℕ) (zs : List ℤ) (x : ℕ) → length zs % 2 ≡ 0 → x ≡ eachNumber s (pairs zs)
+    → s′ ≡ accepted x (eachResult s (pairs zs)) s → (x ≡ pointsNumber s zs) × (s′ ≡ pointsResult s zs)
+points-viewed s s′ zs x h e q = let n = points-even s zs x h e in (n, unfold pointsResult in (q ∙ ap (λ (m : ℕ). accepted m (eachResult s (pairs zs)) s) n))
 
 -- ---- one point
 or-none : (a : ℕ) → orNext a 0 ≡ a
@@ -263,4 +273,8 @@ one-number s x y = or-none (pointNumber s (at x y))
 
 pub one-result : (s : List ℕ) (x y : ℤ) → pointsResult s (x ∷ y ∷ []) ≡ pointResult s (at x y)
 unfolding pointsResult pointResult
-one-result s x y = rw (one-number s x y) (by-test (eqb (pointNumber s (at x y)) 0) (λ e. rw e) (λ e. rw e))
+one-result s x y = rw (one-number s x y) (twice (pointNumber s (at x y)) (pointAppended s (at x y)))
+  where
+    twice : (n : ℕ) (a : List ℕ) → accepted n (accepted n a s) s ≡ accepted n a s
+    twice zero a = refl
+    twice (suc n) a = refl

@@ -12,7 +12,7 @@ use Rattle.line.specs.Point.{inRange}
 use Rattle.octets.specs.Number.{le16, le32}
 use Rattle.store.specs.Chain.{lastOf, greatest}
 use Rattle.store.specs.Layout.{count, rec, write, linkIn, totalAt, isPoints, held, lostRecord, pointBytes, pointRecord}
-use Rattle.line.specs.Refusal.{need, orNext}
+use Rattle.line.specs.Refusal.{need, orNext, accepted}
 use Rattle.store.specs.Store.{chain, lastIn, total, mark, sizeOk, refusal}
 
 -- making a store zeroes it and writes record 0
@@ -23,7 +23,7 @@ unfoldable pub makeNumber : List ℕ → ℕ → ℕ → ℕ
 makeNumber s mode role = need (isMode mode) 1 (need (isRole mode role) 2 (need (sizeOk s) 11 0))
 
 unfoldable pub makeResult : List ℕ → ℕ → ℕ → List ℕ
-makeResult s mode role = cond (eqb (makeNumber s mode role) 0) (made (length s) mode role) s
+makeResult s mode role = accepted (makeNumber s mode role) (made (length s) mode role) s
 
 -- the greatest total
 abbrev pub mostIntervals : ℕ
@@ -50,7 +50,7 @@ lostNumber s n =
     need (leb 1 n) 9 (orNext (refusal s) (need (leb (total s + n) mostIntervals) 16 (need (not (isFull s)) 17 0)))
 
 unfoldable pub lostResult : List ℕ → ℕ → List ℕ
-lostResult s n = cond (eqb (lostNumber s n) 0) (lostAppended s n) s
+lostResult s n = accepted (lostNumber s n) (lostAppended s n) s
 
 -- whether i is a chain record of kind 1 with fewer than 7 points
 unfoldable pub hasRoom : List ℕ → ℕ → Bool
@@ -72,4 +72,4 @@ pointNumber s p =
     (orNext (refusal s) (need (leb (total s + 1) mostIntervals) 16 (need (hasRoom s (lastIn s) || not (isFull s)) 17 0)))
 
 unfoldable pub pointResult : List ℕ → Point → List ℕ
-pointResult s p = cond (eqb (pointNumber s p) 0) (pointAppended s p) s
+pointResult s p = accepted (pointNumber s p) (pointAppended s p) s

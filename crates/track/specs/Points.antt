@@ -1,5 +1,4 @@
 -- Many points appended by one call: as one append after the other, all or none.
-use mathlib.Core.Bool.{cond}
 use mathlib.Core.List.{List, [], _∷_}
 use Prim.Native.Nat.{ℕ, _%_}
 use lib.Dec.{eqb}
@@ -7,7 +6,7 @@ use lib.IntN.{ℤ}
 use lib.ListN.{length}
 use Rattle.line.specs.declared.Point.{Point}
 use Rattle.line.specs.Point.{pairs}
-use Rattle.line.specs.Refusal.{need, orNext}
+use Rattle.line.specs.Refusal.{need, orNext, accepted}
 use Rattle.track.specs.Append.{pointNumber, pointResult}
 
 -- the number of the first append that is refused, each to the store that the one before left
@@ -26,4 +25,4 @@ pointsNumber s zs = need (eqb (length zs % 2) 0) 7 (eachNumber s (pairs zs))
 
 -- a refusal leaves every byte
 unfoldable pub pointsResult : List ℕ → List ℤ → List ℕ
-pointsResult s zs = cond (eqb (pointsNumber s zs) 0) (eachResult s (pairs zs)) s
+pointsResult s zs = accepted (pointsNumber s zs) (eachResult s (pairs zs)) s

@@ -18,14 +18,10 @@ use Rattle.track.specs.Append.{mostIntervals, newIndex, hasRoom}
 unfoldable pub spaces : List ℕ → ℕ
 spaces s = cond (hasRoom s (lastIn s)) (7 - held (rec s (lastIn s))) 0 + 7 * (count s - newIndex (chain s))
 
--- the number that refuses a point, or a lost count: from the store's number, its total t, and whether there is room
+-- the number that refuses a point: from the store's number, its total t, and whether there is room
 unfoldable pub pointSeen : ℕ → ℕ → ℕ → Point → ℕ
 pointSeen number t room p =
     need (inRange p) 8 (orNext number (need (leb (t + 1) mostIntervals) 16 (need (ltb 0 room) 17 0)))
-
-unfoldable pub lostSeen : ℕ → ℕ → Bool → ℕ → ℕ
-lostSeen number t full n =
-    need (leb 1 n) 9 (orNext number (need (leb (t + n) mostIntervals) 16 (need (not full) 17 0)))
 
 -- the number of the first point that is refused, each taking one interval and one place
 unfoldable pub seenNumber : ℕ → ℕ → ℕ → List Point → ℕ

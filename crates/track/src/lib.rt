@@ -13,6 +13,7 @@ use octets::put_all;
 use octets::put8;
 use octets::put16;
 use octets::put32;
+use store::Inspected;
 use store::MARK;
 use store::TOTAL_AT;
 use store::View;
@@ -26,12 +27,13 @@ ghost use mathlib.Core.List.{[], _∷_};
 ghost use Prim.Native.Nat.{_+_, _*_, _≤_, _<_};
 ghost use lib.ListN.{length};
 ghost use Rattle.line.specs.Point.{at, pairs};
+ghost use Rattle.line.specs.Refusal.{accepted};
 ghost use Rattle.octets.specs.Number.{le16, le32};
 ghost use Rattle.store.specs.Layout.{rec, write, linkIn, totalAt, held, lostRecord, pointBytes, pointRecord};
 ghost use Rattle.store.specs.Walk.{Viewed};
 ghost use Rattle.track.specs.Append.{made, makeNumber, makeResult, lostNumber, lostResult, hasRoom, pointNumber, pointResult};
 ghost use Rattle.track.specs.Points.{eachNumber, eachResult, pointsNumber, pointsResult};
-ghost use Rattle.track.specs.Seen.{spaces, pointSeen, lostSeen, seenNumber, firstIn, fit, Ends, Reach, placed, nextEnd};
+ghost use Rattle.track.specs.Seen.{spaces, pointSeen, seenNumber, firstIn, fit, Ends, Reach, placed, nextEnd};
 
 const MOST_INTERVALS: usize = 4294967295;
 
@@ -145,14 +147,11 @@ fn has_room(s: &[u8], i: usize) -> bool
     (i != 0) & (get8(s, 32 * i + 2) == 1) & (held_in(s, i) < 7)
 }
 
-// How many points a store still takes; 0 for a refused one.
+// How many points the store that `v` shows still takes.
 fn room_for(s: &[u8], v: View) -> usize
     requires { ⌜ Viewed (now s) v ⌝ }
-    ensures { λ r. ⌜ (v .number ≡ 0 → r ≡ spaces (now (s .entry))) ⌝ }
+    ensures { λ r. ⌜ r ≡ spaces (now (s .entry)) ⌝ }
 {
-    if v.number != 0 {
-        return 0;
-    }
     let last = v.last;
     let fresh = 7 * (s.len() / 32 - (v.greatest + 1));
     if has_room(s, last) {
@@ -176,34 +175,36 @@ fn point_number(number: u8, total: usize, room: usize, re: i16, im: i16) -> u8
     )
 }
 
-// The number that refuses a lost count, or 0.
-fn lost_number(number: u8, total: usize, full: bool, n: usize) -> u8
-    requires { ⌜ (total ≤ 4294967295) × (n ≤ 4294967295) ⌝ }
-    ensures { λ r. ⌜ r ≡ lostSeen number total full n ⌝ }
+// A lost count of at least 1, at the end of the chain that `v` shows: 0, or the number that refuses it.
+fn link_lost(store: &mut [u8], v: View, n: usize) -> u8
+    requires { ⌜ Viewed (now store) v × (1 ≤ n) × (n ≤ 4294967295) ⌝ }
+    ensures { λ r. ⌜ (r ≡ lostNumber (now (store .entry)) n) × (now (store .exit) ≡ lostResult (now (store .entry)) n) ⌝ }
 {
-    need(
-        1 <= n,
-        9,
-        or_next(
-            number,
-            need(total + n <= MOST_INTERVALS, 16, need(!full, 17, 0)),
-        ),
-    )
+    let new = v.greatest + 1;
+    let total = v.total + n;
+    let number = need(
+        total <= MOST_INTERVALS,
+        16,
+        need(new != store.len() / 32, 17, 0),
+    );
+    if number == 0 {
+        link(store, v.last, new, lost_record(n));
+        put32(store, TOTAL_AT, total);
+    }
+    number
 }
 
 // Appends a lost count: 0, or the number that refuses it.
 pub fn append_lost(store: &mut [u8], n: u32) -> u8
     ensures { λ r. ⌜ (r ≡ lostNumber (now (store .entry)) n) × (now (store .exit) ≡ lostResult (now (store .entry)) n) ⌝ }
 {
-    let v = inspect(store);
-    let lost = n as usize;
-    let full = v.greatest + 1 == store.len() / 32;
-    let number = lost_number(v.number, v.total, full, lost);
-    if number == 0 {
-        link(store, v.last, v.greatest + 1, lost_record(lost));
-        put32(store, TOTAL_AT, v.total + lost);
+    if n == 0 {
+        return 9;
     }
-    number
+    match inspect(store) {
+        Inspected::Refused(number) => number,
+        Inspected::Accepted(v) => link_lost(store, v, n as usize),
+    }
 }
 
 // The end of a chain: its last and its greatest index, and how many points the last record holds, 7 where it has no room for
@@ -217,7 +218,7 @@ struct End {
 // The end of the chain that `v` shows.
 fn end_of(s: &[u8], v: View) -> End
     requires { ⌜ Viewed (now s) v ⌝ }
-    ensures { λ e. ⌜ (v .number ≡ 0 → Ends (now (s .entry)) (v .total) e) ⌝ }
+    ensures { λ e. ⌜ Ends (now (s .entry)) (v .total) e ⌝ }
 {
     let last = v.last;
     let mut held = 7;
@@ -329,6 +330,18 @@ fn place_points(store: &mut [u8], v: View, points: &[i16])
     put32(store, TOTAL_AT, total);
 }
 
+// Points, re and im in turn, at the end of the chain that `v` shows, all or none.
+fn place_all(store: &mut [u8], v: View, points: &[i16]) -> u8
+    requires { ⌜ Viewed (now store) v ⌝ }
+    ensures { λ r. ⌜ (r ≡ eachNumber (now (store .entry)) (pairs (now (points .entry)))) × (now (store .exit) ≡ accepted r (eachResult (now (store .entry)) (pairs (now (points .entry)))) (now (store .entry))) ⌝ }
+{
+    let number = points_number(0, v.total, room_for(store, v), points);
+    if number == 0 {
+        place_points(store, v, points);
+    }
+    number
+}
+
 // Appends points, re and im in turn, all or none: 0, or the number that refuses the first refused one. The store is walked
 // once, and the room is counted before anything is written.
 pub fn append_points(store: &mut [u8], points: &[i16]) -> u8
@@ -337,13 +350,10 @@ pub fn append_points(store: &mut [u8], points: &[i16]) -> u8
     if points.len() % 2 != 0 {
         return 7;
     }
-    let v = inspect(store);
-    let room = room_for(store, v);
-    let number = points_number(v.number, v.total, room, points);
-    if number == 0 {
-        place_points(store, v, points);
+    match inspect(store) {
+        Inspected::Refused(number) => points_number(number, 0, 0, points),
+        Inspected::Accepted(v) => place_all(store, v, points),
     }
-    number
 }
 
 // Appends a point: 0, or the number that refuses it.

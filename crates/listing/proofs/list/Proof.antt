@@ -1,5 +1,6 @@
-use mathlib.Core.Path.{sym, _∙_}
+use native.Mathlib.Omega.{arith}
 use denote.Ref.{now}
+use Rattle.store.proofs.Views.{told-refused, told-viewed}
 use Rattle.listing.proofs.Writes.{wrote-as}
 use Rattle.listing.proofs.Texts.{list-short, list-done, refused-text}
 use borrow.Author.Needs.{needs}
@@ -10,31 +11,37 @@ returns : tie.Need-returns
 returns c = let a = c .before .before .before .args in list-short (now (a .store)) (now (a .out)) (c .if1 .taken)
 
 inspect-requires : tie.Need-inspect-requires
-inspect-requires c κs = tt
+inspect-requires c κs = search needs
+
+enum-known-number : tie.Need-enum-known-number
+enum-known-number c = search needs
+
+put-refused-requires : tie.Need-put-refused-requires
+put-refused-requires c κs = search needs
+
+enum-known-v : tie.Need-enum-known-v
+enum-known-v c = search needs
 
 cast-put-track : tie.Need-cast-put-track
-cast-put-track c = search needs
+cast-put-track c = let w = told-viewed (now (c .before .before .before .before .before .before .before .before .before .args .store)) _ _ (c .before .before .before .before .before .inspect .ensures) (c .before .before .before .v .given .1) in omega (arith, w .small .2)
 
 put-track-requires : tie.Need-put-track-requires
-put-track-requires c κs = let v = c .before .before .before .before .inspect .ensures in (sym (v .number) ∙ c .before .before .if2 .taken, v .total-is (c .before .before .if2 .taken))
+put-track-requires c κs = let w = told-viewed (now (c .before .before .before .before .before .before .before .before .before .args .store)) _ _ (c .before .before .before .before .before .inspect .ensures) (c .before .before .before .v .given .1) in (w .accepted, w .total-is)
 
 same-length : tie.Need-same-length
 same-length c = search needs
 
 returns-2 : tie.Need-returns-2
-returns-2 c = let a = c .before .before .before .before .before .before .before .before .before .before .before .args in list-done (now (a .store)) (now (a .out)) _ _ (c .before .before .before .before .before .before .before .before .if1 .left) (c .before .before .put-track .ensures)
-
-put-refused-requires : tie.Need-put-refused-requires
-put-refused-requires c κs = tt
+returns-2 c =
+    let a = c .before .before .before .before .before .before .before .before .before .before .before .args in
+    let t = told-refused (now (a .store)) _ _ (c .before .before .before .before .before .before .before .inspect .ensures) (c .before .before .before .before .before .number .given .1) in
+    list-done (now (a .store)) (now (a .out)) _ _ (c .before .before .before .before .before .before .before .before .if1 .left) (wrote-as (refused-text (now (a .store)) _ (t .0) (t .1)) (c .before .before .put-refused .ensures))
 
 same-length-2 : tie.Need-same-length-2
 same-length-2 c = search needs
 
 returns-3 : tie.Need-returns-3
-returns-3 c =
-    let a = c .before .before .before .before .before .before .before .before .before .before .args in
-    list-done (now (a .store)) (now (a .out)) _ _ (c .before .before .before .before .before .before .before .if1 .left)
-    (wrote-as (refused-text (now (a .store)) _ (c .before .before .before .before .before .before .inspect .ensures .number) (c .before .before .before .before .if2 .left)) (c .before .before .put-refused .ensures))
+returns-3 c = let a = c .before .before .before .before .before .before .before .before .before .before .before .before .args in list-done (now (a .store)) (now (a .out)) _ _ (c .before .before .before .before .before .before .before .before .before .if1 .left) (c .before .before .put-track .ensures)
 
 pub list-spec : {M : Type 1} → statement M
 list-spec =
@@ -42,10 +49,12 @@ list-spec =
     (tie.spec
     returns
     inspect-requires
+    enum-known-number
+    put-refused-requires
+    enum-known-v
     cast-put-track
     put-track-requires
     same-length
     returns-2
-    put-refused-requires
     same-length-2
     returns-3)

@@ -1,6 +1,5 @@
-use Rattle.store.proofs.Views.{viewed-size}
-use native.Mathlib.Omega.{arith}
-use mathlib.Core.Path.{_≡_, refl, sym, ap, _∙_}
+use mathlib.Core.Path.{sym, _∙_}
+use Rattle.store.proofs.Views.{tells-size}
 use borrow.Author.Needs.{needs}
 use Rattle.store.proofs.inspect.Statement.{statement}
 use Rattle.store.proofs.inspect.Tie as tie
@@ -19,7 +18,7 @@ returns : tie.Need-returns
 returns c = search needs
 
 returns-2 : tie.Need-returns-2
-returns-2 c = viewed-size _ _ (sym (c .before .size-ok .ensures) ∙ c .if1 .left) refl (omega arith)
+returns-2 c = tells-size _ (sym (c .before .size-ok .ensures) ∙ c .if1 .left)
 
 pub inspect-spec : {M : Type 1} → statement M
 inspect-spec = tie.close (tie.spec size-ok-requires inspect-sized-requires returns returns-2)

@@ -1,19 +1,18 @@
-use Rattle.store.proofs.Views.{viewed-sized}
-use Rattle.store.proofs.Sounds.{size-sized}
-use Rattle.line.specs.Refusal.{need}
-use Rattle.store.specs.Store.{headOk}
-use native.Mathlib.Omega.{arith}
 use denote.Ref.{now}
-use mathlib.Core.Path.{_≡_, refl, sym, ap, _∙_}
+use mathlib.Core.Path.{sym, ap, _∙_}
+use native.Mathlib.Omega.{arith}
+use Rattle.store.specs.Store.{headOk}
+use Rattle.store.proofs.Sounds.{size-sized}
+use Rattle.store.proofs.Views.{sized-number, tells-refused, tells-accepted}
 use borrow.Author.Needs.{needs}
 use Rattle.store.proofs.inspect_sized.Statement.{statement}
 use Rattle.store.proofs.inspect_sized.Tie as tie
 use Rattle.store.proofs.inspect_sized.Reads as reads
 use Rattle.store.proofs.inspect_sized.Lts as lts
+use Rattle.line.proofs.need.Reads as need-reads
 use Rattle.octets.proofs.get32.Reads as get32-reads
 use Rattle.store.proofs.follow.Reads as follow-reads
 use Rattle.store.proofs.head_ok.Reads as head-ok-reads
-use Rattle.line.proofs.need.Reads as need-reads
 use Rattle.store.proofs.record_at.Reads as record-at-reads
 
 follow-requires : tie.Need-follow-requires
@@ -41,11 +40,10 @@ need-requires-4 : tie.Need-need-requires-4
 need-requires-4 c κs = search needs
 
 returns : tie.Need-returns
-returns c = let f = c .before .before .before .before .before .before .before .before .follow in
-    let g = c .before .before .before .before .before .before .before .get32 in
-    let h = c .before .before .before .before .before .head-ok in
-    viewed-sized (now (c .before .before .before .before .before .before .before .before .before .before .args .s)) (f .result) (h .result) (g .result) (c .need4 .result) (c .before .before .before .before .before .before .before .before .before .before .pre) (f .ensures)
-    (h .ensures ∙ ap headOk (c .before .before .before .before .before .before .record-at .ensures .0)) (g .ensures .0) (g .ensures .1) (cc)
+returns c = tells-refused _ _ (sized-number (now (c .before .before .before .before .before .before .before .before .before .before .before .args .s)) (c .before .before .before .before .before .before .before .before .before .follow .result) (c .before .before .before .before .before .before .head-ok .result) (c .before .before .before .before .before .before .before .before .get32 .result) (c .before .need4 .result) (c .before .before .before .before .before .before .before .before .before .before .before .pre) (c .before .before .before .before .before .before .before .before .before .follow .ensures) (c .before .before .before .before .before .before .head-ok .ensures ∙ ap headOk (c .before .before .before .before .before .before .before .record-at .ensures .0)) (c .before .before .before .before .before .before .before .before .get32 .ensures .0) (cc)) (c .if1 .taken)
+
+returns-2 : tie.Need-returns-2
+returns-2 c = tells-accepted (now (c .before .before .before .before .before .before .before .before .before .before .before .args .s)) (c .before .before .before .before .before .before .before .before .before .follow .result) (c .before .before .before .before .before .before .head-ok .result) (c .before .before .before .before .before .before .before .before .get32 .result) (c .before .need4 .result) (c .before .before .before .before .before .before .before .before .before .before .before .pre) (c .before .before .before .before .before .before .before .before .before .follow .ensures) (c .before .before .before .before .before .before .head-ok .ensures ∙ ap headOk (c .before .before .before .before .before .before .before .record-at .ensures .0)) (c .before .before .before .before .before .before .before .before .get32 .ensures .0) (cc) (c .before .before .before .before .before .before .before .before .get32 .ensures .1) (c .if1 .left)
 
 pub inspect-sized-spec : {M : Type 1} → statement M
 inspect-sized-spec =
@@ -59,4 +57,5 @@ inspect-sized-spec =
     need-requires-2
     need-requires-3
     need-requires-4
-    returns)
+    returns
+    returns-2)

@@ -9,7 +9,7 @@ use lib.IntN.{ℤ}
 use lib.ListN.{length}
 use lib.Seq.{sets}
 use Rattle.store.specs.Layout.{count, eventsOf}
-use Rattle.store.specs.Reading.{numbers}
+use Rattle.store.specs.Reads.{numbers}
 use Rattle.store.proofs.Readings.{Copying, copying-start, copying-room, copying-step, copying-end, along-in}
 use Rattle.store.proofs.put_chain.Statement.{statement}
 use Rattle.store.proofs.put_chain.Tie as tie

@@ -1,5 +1,5 @@
 use denote.Ref.{now}
-use mathlib.Core.Path.{_≡_, refl, sym, ap, _∙_}
+use mathlib.Core.Path.{sym, _∙_}
 use native.Mathlib.Omega.{arith}
 use Rattle.track.proofs.Answers.{room-less, room-below, room-in-last, room-in-new}
 use borrow.Author.Needs.{needs}
@@ -10,14 +10,11 @@ use Rattle.track.proofs.room_for.Lts as lts
 use Rattle.track.proofs.has_room.Reads as has-room-reads
 use Rattle.track.proofs.held_in.Reads as held-in-reads
 
-returns : tie.Need-returns
-returns c = search needs
-
 add-fresh : tie.Need-add-fresh
 add-fresh c = search needs
 
 sub-fresh : tie.Need-sub-fresh
-sub-fresh c = room-below (now (c .before .before .before .before .args .s)) (c .before .before .before .before .args .v) (c .before .before .before .before .pre) (c .before .if1 .left)
+sub-fresh c = room-below (now (c .before .before .args .s)) (c .before .before .args .v) (c .before .before .pre)
 
 mul-fresh : tie.Need-mul-fresh
 mul-fresh c = search needs
@@ -29,22 +26,21 @@ held-in-requires : tie.Need-held-in-requires
 held-in-requires c κs = search needs
 
 sub-result : tie.Need-sub-result
-sub-result c = omega (arith, c .held-in .ensures, room-less (now (c .before .before .before .before .before .before .before .args .s)) (c .before .before .before .before .before .before .before .args .v .last) (sym (c .before .before .has-room .ensures) ∙ c .before .if2 .taken))
+sub-result c = omega (arith, c .held-in .ensures, room-less (now (c .before .before .before .before .before .args .s)) (c .before .before .before .before .before .args .v .last) (sym (c .before .before .has-room .ensures) ∙ c .before .if1 .taken))
 
 add-result : tie.Need-add-result
 add-result c = search needs
 
-returns-2 : tie.Need-returns-2
-returns-2 c = λ z. room-in-last (now (c .before .before .before .before .before .before .before .args .s)) (c .before .before .before .before .before .before .before .args .v) (c .held-in .result) (c .before .before .before .before .before .before .before .pre) z (sym (c .before .before .has-room .ensures) ∙ c .before .if2 .taken) (c .held-in .ensures)
+returns : tie.Need-returns
+returns c = room-in-last (now (c .before .before .before .before .before .args .s)) (c .before .before .before .before .before .args .v) (c .held-in .result) (c .before .before .before .before .before .pre) (sym (c .before .before .has-room .ensures) ∙ c .before .if1 .taken) (c .held-in .ensures)
 
-returns-3 : tie.Need-returns-3
-returns-3 c = λ z. room-in-new (now (c .before .before .before .before .before .before .args .s)) (c .before .before .before .before .before .before .args .v) (c .before .before .before .before .before .before .pre) z (sym (c .before .has-room .ensures) ∙ c .if2 .left)
+returns-2 : tie.Need-returns-2
+returns-2 c = room-in-new (now (c .before .before .before .before .args .s)) (c .before .before .before .before .args .v) (c .before .before .before .before .pre) (sym (c .before .has-room .ensures) ∙ c .if1 .left)
 
 pub room-for-spec : {M : Type 1} → statement M
 room-for-spec =
     tie.close
     (tie.spec
-    returns
     add-fresh
     sub-fresh
     mul-fresh
@@ -52,5 +48,5 @@ room-for-spec =
     held-in-requires
     sub-result
     add-result
-    returns-2
-    returns-3)
+    returns
+    returns-2)
