@@ -1,14 +1,13 @@
 -- Calls that say how much they wrote. Assumes nothing.
 use Prim.Native.Nat.{ℕ, zero, suc, _≤_, _<_}
-use mathlib.Core.Path.{_≡_, refl, sym, _∙_, ap}
-use mathlib.Core.Bool.{Bool, true, false}
+use mathlib.Core.Path.{_≡_, refl}
+use mathlib.Core.Bool.{true, false}
 use mathlib.Core.List.{List, [], _∷_}
-use native.Mathlib.Omega.{arith}
 use borrow.Author.Tests.{le-leb, lt-leb}
 use lib.Dec.{leb}
-use lib.ListN.{length, set}
+use lib.ListN.{length}
 use lib.Seq.{sets}
-use Rattle.line.specs.Refusal.{need, accepted}
+use Rattle.line.specs.Refusal.{accepted}
 use Rattle.kerambiu.specs.Counted.{countedNumber, countedOut, countedCounts}
 
 module _ {A : Type 0} (counts : List ℕ) (n c : ℕ) (result before : A) where
@@ -26,24 +25,3 @@ module _ {A : Type 0} (counts : List ℕ) (n c : ℕ) (result before : A) where
       go : (k : ℕ) → sets counts 0 (accepted k (c ∷ []) []) ≡ accepted k (sets counts 0 (c ∷ [])) counts
       go zero = refl
       go (suc k) = refl
-
-  -- `m`, `k` and `out` are what the call gave
-  module _ (m k : ℕ) (out : A) (h : 1 ≤ length counts) (p : m ≡ n) (q : k ≡ c) (r : out ≡ result) where
-    pub count-done : m ≡ 0
-        → (m ≡ countedNumber counts n) × (out ≡ countedOut counts result before) × (set counts 0 k ≡ countedCounts counts n c)
-    unfolding countedNumber countedOut countedCounts
-    count-done z =
-        let f : leb 1 (length counts) ≡ true = le-leb _ _ h in
-        let e : n ≡ 0 = sym p ∙ z in
-        (rw f p, rw f r, rw (f, e, q))
-
-    pub count-refused : (m ≡ 0 → ⊥)
-        → (m ≡ countedNumber counts n) × (out ≡ countedOut counts result before) × (counts ≡ countedCounts counts n c)
-    unfolding countedNumber countedOut countedCounts
-    count-refused z =
-        let f : leb 1 (length counts) ≡ true = le-leb _ _ h in
-        (rw f p, rw f r, rw f (left n (λ e. z (p ∙ e))))
-      where
-        left : (x : ℕ) → (x ≡ 0 → ⊥) → counts ≡ accepted x (set counts 0 c) counts
-        left zero e = absurd (e refl)
-        left (suc x) e = refl

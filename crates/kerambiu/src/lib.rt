@@ -135,10 +135,11 @@ pub extern "C" fn kerambiu_read(
     if count.len() < 1 {
         return 7;
     }
-    match track::read(store, out, offset) {
+    let reading = track::read(store, out, offset);
+    match reading {
         Readout::Refused(number) => number,
-        Readout::Events(n) => {
-            count[0] = n;
+        Readout::Events(events) => {
+            count[0] = events;
             0
         }
     }

@@ -1,27 +1,25 @@
+use mathlib.Core.Path.{sym, ap, _∙_}
 use denote.Ref.{now}
-use mathlib.Core.Path.{refl, sym}
 use lib.ListN.{length}
-use Rattle.store.specs.Reads.{readNumber, readCount, readResult}
-use Rattle.store.proofs.Readings.{gave-refused, gave-events}
-use Rattle.kerambiu.proofs.CountedLaws.{count-short, count-done, count-refused}
+use Rattle.store.specs.Reads.{readNumber, readCount, readResult, numberOf, countsOf}
+use Rattle.kerambiu.proofs.CountedLaws.{count-short, count-given}
 use borrow.Author.Needs.{needs}
 use Rattle.kerambiu.proofs.kerambiu_read.Statement.{statement}
 use Rattle.kerambiu.proofs.kerambiu_read.Tie as tie
-use Rattle.kerambiu.proofs.kerambiu_read.Reads as reads
-use Rattle.kerambiu.proofs.kerambiu_read.Lts as lts
-use Rattle.store.proofs.read.Reads as read-reads
 
 returns : tie.Need-returns
-returns c = let a = c .before .before .before .args in count-short (now (a .count)) (readNumber (now (a .store)) (length (now (a .out))) (a .offset)) (readCount (now (a .store)) (length (now (a .out))) (a .offset)) (readResult (now (a .store)) (now (a .out)) (a .offset)) (now (a .out)) (c .if1 .taken)
+returns c =
+    let a = c .before .before .before .args in
+    count-short (now (a .count)) (readNumber (now (a .store)) (length (now (a .out))) (a .offset)) (readCount (now (a .store)) (length (now (a .out))) (a .offset)) (readResult (now (a .store)) (now (a .out)) (a .offset)) (now (a .out)) (c .if1 .taken)
 
 read-requires : tie.Need-read-requires
 read-requires c κs = search needs
 
-enum-known-number : tie.Need-enum-known-number
-enum-known-number c = search needs
+enum-known-reading : tie.Need-enum-known-reading
+enum-known-reading c = search needs
 
-enum-known-n : tie.Need-enum-known-n
-enum-known-n c = search needs
+enum-known-reading-2 : tie.Need-enum-known-reading-2
+enum-known-reading-2 c = search needs
 
 slice-write-count : tie.Need-slice-write-count
 slice-write-count c = search needs
@@ -30,7 +28,10 @@ same-length : tie.Need-same-length
 same-length c = search needs
 
 returns-2 : tie.Need-returns-2
-returns-2 c = let a = c .before .before .before .before .before .before .before .before .before .args in let g = c .before .before .before .before .read .ensures in let t = gave-refused (now (a .store)) (length (now (a .out))) (a .offset) _ _ (g .0) (c .before .number .given .1) in count-refused (now (a .count)) _ (readCount (now (a .store)) (length (now (a .out))) (a .offset)) _ _ _ _ _ (c .before .before .before .before .before .before .if1 .left) (t .0) refl (g .1) (t .1)
+returns-2 c =
+    let g = c .before .before .before .before .read .ensures in
+    let r = c .before .reading .given .1 in
+    count-given (now (c .before .before .before .before .before .before .before .before .before .args .count)) _ _ _ _ _ _ _ (c .before .before .before .before .before .before .if1 .left) (sym (ap numberOf r) ∙ g .0 .number) (sym (ap countsOf r) ∙ g .0 .counts) (g .1)
 
 same-length-2 : tie.Need-same-length-2
 same-length-2 c = search needs
@@ -39,7 +40,10 @@ same-length-3 : tie.Need-same-length-3
 same-length-3 c = search needs
 
 returns-3 : tie.Need-returns-3
-returns-3 c = let a = c .before .before .before .before .before .before .before .before .before .args in let g = c .before .before .before .before .read .ensures in let t = gave-events (now (a .store)) (length (now (a .out))) (a .offset) _ _ (g .0) (c .before .n .given .1) in count-done (now (a .count)) _ _ _ _ 0 _ _ (c .before .before .before .before .before .before .if1 .left) (sym (t .0)) (t .1) (g .1) refl
+returns-3 c =
+    let g = c .before .before .before .before .read .ensures in
+    let r = c .before .reading2 .given .1 in
+    count-given (now (c .before .before .before .before .before .before .before .before .before .args .count)) _ _ _ _ _ _ _ (c .before .before .before .before .before .before .if1 .left) (sym (ap numberOf r) ∙ g .0 .number) (sym (ap countsOf r) ∙ g .0 .counts) (g .1)
 
 pub kerambiu-read-spec : {M : Type 1} → statement M
 kerambiu-read-spec =
@@ -47,8 +51,8 @@ kerambiu-read-spec =
     (tie.spec
     returns
     read-requires
-    enum-known-number
-    enum-known-n
+    enum-known-reading
+    enum-known-reading-2
     slice-write-count
     same-length
     returns-2

@@ -32,7 +32,10 @@ same-length : tie.Need-same-length
 same-length c = search needs
 
 returns-2 : tie.Need-returns-2
-returns-2 c = let a = c .before .before .before .before .before .before .before .before .before .before .before .args in let t = told-refused (now (a .store)) _ _ (c .before .before .before .before .before .before .before .inspect .ensures) (c .before .before .before .before .before .number .given .1) in list-done (now (a .store)) (now (a .out)) _ _ (c .before .before .before .before .before .before .before .before .if1 .left) (wrote-as (refused-text (now (a .store)) _ (t .0) (t .1)) (c .before .before .put-refused .ensures))
+returns-2 c =
+    let a = c .before .before .before .before .before .before .before .before .before .before .before .args in
+    let t = told-refused (now (a .store)) _ _ (c .before .before .before .before .before .before .before .inspect .ensures) (c .before .before .before .before .before .number .given .1) in
+    list-done (now (a .store)) (now (a .out)) _ _ (c .before .before .before .before .before .before .before .before .if1 .left) (wrote-as (refused-text (now (a .store)) _ (t .0) (t .1)) (c .before .before .put-refused .ensures))
 
 same-length-2 : tie.Need-same-length-2
 same-length-2 c = search needs
