@@ -12,7 +12,6 @@ use Rattle.line.specs.declared.Point.{Point}
 use Rattle.line.specs.Table.{every}
 use Rattle.line.specs.Mode.{width}
 use Rattle.line.specs.Point.{sentPoint}
-use Rattle.coding.specs.Code.{coded}
 use Rattle.scrambler.specs.Bits.{isBit, bits}
 use Rattle.training.specs.Coder.{numbers}
 use Rattle.sender.specs.declared.Sender.{Sender}

@@ -7,8 +7,8 @@ use native.Mathlib.Nat.{add-zero}
 use native.Mathlib.Omega.{arith}
 use native.Mathlib.Decide.{decLt, decLe}
 use lib.Dec.{eqb}
-use lib.ListN.{length, getD, replicate}
-use Rattle.line.specs.Mode.{byMode, width, farTap, capacity}
+use lib.ListN.{getD, replicate}
+use Rattle.line.specs.Mode.{width, farTap, capacity}
 use Rattle.line.proofs.ByMode.{mode-short, mode-long}
 use Rattle.scrambler.specs.declared.Register.{Register}
 use Rattle.scrambler.specs.Bits.{bits}

@@ -1,22 +1,22 @@
 -- The intervals of training: what the code computes of them, and that a coder that can send stays one. Assumes nothing.
 use Prim.Native.Nat.{ℕ, zero, suc, _+_, _*_, _-_, _/_, _%_, _<_, _≤_}
 use mathlib.Core.Path.{_≡_, refl, sym, _∙_, ap, ap₂, subst}
-use mathlib.Core.Bool.{Bool, true, false, cond}
+use mathlib.Core.Bool.{Bool, cond}
 use mathlib.Core.List.{List, [], _∷_}
 use native.Mathlib.Omega.{arith}
 use native.Mathlib.Decide.{decLt, decLe}
 use borrow.Author.Tests.{lt-ltb, le-ltb}
-use lib.Dec.{T, ltb, eqb}
+use lib.Dec.{T, ltb}
 use lib.ListN.{length, getD, replicate, length-replicate}
 use Rattle.line.specs.Table.{every, below}
-use Rattle.line.specs.Mode.{byMode, isMode, isState, states, width, farTap, capacity}
+use Rattle.line.specs.Mode.{isMode, isState, states, width, farTap, capacity}
 use Rattle.line.proofs.ByMode.{mode-short, mode-long}
 use Rattle.line.proofs.StateLaws.{mode-cases}
 use Rattle.line.proofs.TableLaws.{every-at, below-at}
 use Rattle.scrambler.specs.declared.Register.{Register}
 use Rattle.scrambler.specs.declared.Scrambled.{Scrambled}
 use Rattle.scrambler.specs.Bits.{bits, value}
-use Rattle.scrambler.specs.Register.{register, nearTap, pushes}
+use Rattle.scrambler.specs.Register.{nearTap, pushes}
 use Rattle.scrambler.specs.Scramble.{scramble}
 use Rattle.scrambler.specs.Group.{scrambled}
 use Rattle.scrambler.proofs.BitLaws.{bits-value, value-small}
@@ -24,7 +24,7 @@ use Rattle.scrambler.proofs.RegisterLaws.{Ok}
 use Rattle.scrambler.proofs.WindowLaws.{mix-small}
 use Rattle.scrambler.proofs.GroupLaws.{length-scramble, bits-scramble}
 use Rattle.training.specs.declared.Coder.{Coder}
-use Rattle.training.specs.Coder.{coder, coding}
+use Rattle.training.specs.Coder.{coder}
 use Rattle.training.specs.Training.{reversals, changes, spent, middle, train27, A, B, C, D, dibitState, train32, train, start, intervals, trained}
 use Rattle.training.proofs.CoderLaws.{same-coder, scramble-same, pushes-same, Ready, ready-pushes, ready-coding}
 
