@@ -25,6 +25,7 @@ use Rattle.receiver.proofs.CallLaws.{Valid, no-refusal, next-valid}
 use Rattle.store.specs.Chain.{gather, sumOver}
 use Rattle.store.specs.Layout.{Event, point, lost, rec, held, isPoints, pointAt, points, pointsOk, kind, recordOk, spanOf, eventsOf}
 use Rattle.store.specs.Store.{chain, events, total, hasMark, headOk, refusal}
+use Rattle.line.specs.Table.{All}
 use Rattle.store.proofs.Records.{total-at}
 use Rattle.store.proofs.Sounds.{accepted-sound}
 use Rattle.listing.specs.Text.{taken, modeIn, roleIn}

@@ -29,7 +29,8 @@ use Rattle.store.specs.Chain.{gather}
 use Rattle.store.specs.Layout.{count, rec, held, isPoints, pointAt, points, recordOk, eventsOf}
 use Rattle.store.specs.Layout.{next as nextIn}
 use Rattle.store.specs.Store.{chain, events, total, headOk, refusal}
-use Rattle.store.proofs.Chains.{All, run-short}
+use Rattle.line.specs.Table.{All}
+use Rattle.store.proofs.Chains.{run-short}
 use Rattle.store.proofs.Sounds.{accepted-sound}
 use Rattle.listing.specs.Text.{decimal, glyphs, lineGlyphs, bitsAre, blank, kindText, lineText, taken, lines, firstLine, chainText, refusedLine, modeIn, roleIn, text, longest}
 use Rattle.listing.specs.Laws.{NoneLonger}

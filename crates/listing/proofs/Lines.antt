@@ -20,7 +20,7 @@ use Rattle.receiver.specs.Outcome.{stateOf, Told, gapOutcome, eventOutcome, out
 use Rattle.store.specs.Layout.{rec, linkIn, kind, held, isPoints, points, pointsOk, recordOk, eventsOf}
 use Rattle.store.specs.Layout.{next as nextIn}
 use Rattle.store.specs.Store.{events, refusal}
-use Rattle.store.proofs.Chains.{All}
+use Rattle.line.specs.Table.{All}
 use Rattle.store.proofs.Readings.{Along, along-start, along-step, ahead, ahead-start, ahead-step, left, left-start, left-step, left-end, of-points, of-lost}
 use Rattle.store.proofs.Records.{next-at, link-later}
 use Rattle.store.proofs.Sounds.{accepted-sound}

@@ -1,12 +1,12 @@
 -- Laws of `sets`, a run of stores into a list. Assumes nothing.
-use mathlib.Core.Path.{_≡_, refl, sym, ap, _∙_, subst}
-use mathlib.Core.Logic.{_≢_, ⊎-elim, _⊎_, inl, inr}
+use mathlib.Core.Path.{_≡_, refl, sym, ap, _∙_}
+use mathlib.Core.Logic.{_⊎_, inl, inr}
 use mathlib.Core.List.{List, [], _∷_, _++_}
-use Prim.Native.Nat.{ℕ, zero, suc, _+_, _*_, _-_, _≤_, _<_}
+use Prim.Native.Nat.{ℕ, zero, suc, _+_, _-_, _≤_, _<_}
 use native.Mathlib.Nat.{add-suc, suc-add}
 use native.Mathlib.Omega.{arith}
 use lib.ListN.{length, getD, set, take, drop, length-set}
-use lib.Seq.{sets, length-sets, take-set-le, drop-set-lt, take-set-lt, drop-set-add, getD-set-same, getD-set-other, set-set, set-comm, set-out}
+use lib.Seq.{sets, take-set-le, drop-set-lt, take-set-lt, drop-set-add, getD-set-same, getD-set-other, set-set, set-comm, set-out}
 
 module _ {A : Type 0} where
   pub take-sets-le : (vs l : List A) (n i : ℕ) → n ≤ i → take n (sets l i vs) ≡ take n l

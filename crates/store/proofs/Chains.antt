@@ -1,22 +1,18 @@
 -- Chains: the walk of a chain that ends, and what one more record makes of it. Nothing here knows bytes. Assumes nothing.
 use mathlib.Core.Path.{_≡_, refl, sym, ap, _∙_, subst}
 use mathlib.Core.Logic.{_≢_, ⊎-elim, _⊎_, inl, inr}
-use mathlib.Core.Bool.{Bool, true, false, not, _&&_, cond, true≢false, false≢true}
+use mathlib.Core.Bool.{Bool, true, false, not, _&&_, cond}
 use mathlib.Core.List.{List, [], _∷_, _++_, append-assoc, append-nil}
-use Prim.Native.Nat.{ℕ, zero, suc, _+_, _*_, _-_, _≤_, _<_, max}
-use native.Mathlib.Nat.{add-assoc}
+use Prim.Native.Nat.{ℕ, zero, suc, _+_, _-_, _≤_, _<_, max}
 use native.Mathlib.Omega.{arith}
-use lib.ListN.{length, length-append}
-use lib.Dec.{eqb, ltb, leb}
-use borrow.Author.Tests.{ltb-true, ltb-false, lt-ltb, le-ltb, eqb-true, eqb-false, eq-eqb, ne-eqb, not-true}
+use lib.ListN.{length}
+use lib.Dec.{eqb, ltb}
+use borrow.Author.Tests.{ltb-true, lt-ltb, eqb-true, eqb-false, eq-eqb, ne-eqb, not-true}
+use Rattle.line.specs.Table.{every, All}
 use Rattle.octets.proofs.Tests.{by-test, and-split, and-join}
-use Rattle.store.specs.Chain.{walk, lastOf, greatest, all, distinct, sumOver, gather}
+use Rattle.store.specs.Chain.{walk, lastOf, greatest, distinct, sumOver, gather}
 
 -- ---- facts about every element, as types
-abbrev pub All : (ℕ → Type 0) → List ℕ → Type 0
-All P [] = Unit {0}
-All P (x ∷ xs) = P x × All P xs
-
 abbrev pub NoDup : List ℕ → Type 0
 NoDup [] = Unit {0}
 NoDup (x ∷ xs) = All (λ y. x ≢ y) xs × NoDup xs
@@ -34,13 +30,13 @@ pub all-zip : {P Q R : ℕ → Type 0} (xs : List ℕ) → ((x : ℕ) → P x �
 all-zip [] g a b = tt
 all-zip (x ∷ xs) g a b = (g x (a .0) (b .0), all-zip xs g (a .1) (b .1))
 
-pub all-true : (p : ℕ → Bool) (xs : List ℕ) → all p xs ≡ true → All (λ x. p x ≡ true) xs
+pub all-true : (p : ℕ → Bool) (xs : List ℕ) → every p xs ≡ true → All (λ x. p x ≡ true) xs
 all-true p [] e = tt
-all-true p (x ∷ xs) e = let s = and-split (p x) (all p xs) e in (s .0, all-true p xs (s .1))
+all-true p (x ∷ xs) e = let s = and-split (p x) (every p xs) e in (s .0, all-true p xs (s .1))
 
-pub true-all : (p : ℕ → Bool) (xs : List ℕ) → All (λ x. p x ≡ true) xs → all p xs ≡ true
+pub true-all : (p : ℕ → Bool) (xs : List ℕ) → All (λ x. p x ≡ true) xs → every p xs ≡ true
 true-all p [] a = refl
-true-all p (x ∷ xs) a = and-join (p x) (all p xs) (a .0) (true-all p xs (a .1))
+true-all p (x ∷ xs) a = and-join (p x) (every p xs) (a .0) (true-all p xs (a .1))
 
 ne-test : (i j : ℕ) → not (eqb i j) ≡ true → i ≢ j
 ne-test i j e = eqb-false i j (not-true (eqb i j) e)
@@ -51,13 +47,13 @@ test-ne i j h = ap not (ne-eqb i j h)
 pub distinct-no-dup : (xs : List ℕ) → distinct xs ≡ true → NoDup xs
 distinct-no-dup [] e = tt
 distinct-no-dup (x ∷ xs) e =
-    let s = and-split (all (λ j. not (eqb x j)) xs) (distinct xs) e in
+    let s = and-split (every (λ j. not (eqb x j)) xs) (distinct xs) e in
     (all-map xs (ne-test x) (all-true (λ j. not (eqb x j)) xs (s .0)), distinct-no-dup xs (s .1))
 
 pub no-dup-distinct : (xs : List ℕ) → NoDup xs → distinct xs ≡ true
 no-dup-distinct [] n = refl
 no-dup-distinct (x ∷ xs) n =
-    and-join (all (λ j. not (eqb x j)) xs) (distinct xs)
+    and-join (every (λ j. not (eqb x j)) xs) (distinct xs)
     (true-all (λ j. not (eqb x j)) xs (all-map xs (test-ne x) (n .0)))
     (no-dup-distinct xs (n .1))
 
@@ -194,10 +190,10 @@ run-short f (suc m) i xs h r a =
     omega arith
 
 -- what number 13 asks, of the walk with m steps: it holds exactly when the walk is a chain that ends
-pub sound-run : (f : ℕ → ℕ) (m i : ℕ) → 0 < m → all (λ x. ltb x m) (walk f m i) && distinct (walk f m i) ≡ true
+pub sound-run : (f : ℕ → ℕ) (m i : ℕ) → 0 < m → every (λ x. ltb x m) (walk f m i) && distinct (walk f m i) ≡ true
     → Run f i (walk f m i) × All (λ x. x < m) (walk f m i)
 sound-run f m i h e =
-    let s = and-split (all (λ x. ltb x m) (walk f m i)) (distinct (walk f m i)) e in
+    let s = and-split (every (λ x. ltb x m) (walk f m i)) (distinct (walk f m i)) e in
     let a : All (λ x. x < m) (walk f m i) = all-map (walk f m i) (λ x. ltb-true x m) (all-true (λ x. ltb x m) (walk f m i) (s .0)) in
     ⊎-elim (λ r. (r, a)) (λ l. absurd (full m h l a (distinct-no-dup (walk f m i) (s .1)))) (walk-or f m i)
   where
@@ -208,18 +204,18 @@ sound-run f m i h e =
         omega arith
 
 pub run-sound : (f : ℕ → ℕ) (m i : ℕ) (xs : List ℕ) → 0 < m → Run f i xs → All (λ x. x < m) xs
-    → all (λ x. ltb x m) xs && distinct xs ≡ true
+    → every (λ x. ltb x m) xs && distinct xs ≡ true
 run-sound f m i xs h r a =
-    and-join (all (λ x. ltb x m) xs) (distinct xs)
+    and-join (every (λ x. ltb x m) xs) (distinct xs)
     (true-all (λ x. ltb x m) xs (all-map xs (λ x. lt-ltb x m) a)) (no-dup-distinct xs (run-no-dup f i xs r))
 
-pub sound-ends : (f : ℕ → ℕ) (m i : ℕ) → 0 < m → all (λ x. ltb x m) (walk f m i) && distinct (walk f m i) ≡ ends f m m i
+pub sound-ends : (f : ℕ → ℕ) (m i : ℕ) → 0 < m → every (λ x. ltb x m) (walk f m i) && distinct (walk f m i) ≡ ends f m m i
 sound-ends f m i h =
-    bool-ext (all (λ x. ltb x m) (walk f m i) && distinct (walk f m i)) (ends f m m i)
+    bool-ext (every (λ x. ltb x m) (walk f m i) && distinct (walk f m i)) (ends f m m i)
     (λ e. let p = sound-run f m i h e in
     run-ends f m m i (walk f m i) (p .0) (p .1) (let q : length (walk f m i) < m = run-short f m i (walk f m i) h (p .0) (p .1) in omega arith))
     (λ e. let p = ends-run f m m i e in
-    subst (λ (c : List ℕ). all (λ x. ltb x m) c && distinct c ≡ true) (sym (walk-run f (p .0) m i (p .1) (p .3)))
+    subst (λ (c : List ℕ). every (λ x. ltb x m) c && distinct c ≡ true) (sym (walk-run f (p .0) m i (p .1) (p .3)))
     (run-sound f m i (p .0) h (p .1) (p .2)))
 
 -- ---- one more index at the end of a chain, whose head is d

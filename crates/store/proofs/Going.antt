@@ -1,15 +1,15 @@
 -- The loop that follows a chain: what holds after k records, at index i. Assumes nothing.
-use mathlib.Core.Path.{_≡_, refl, sym, ap, _∙_, subst}
-use mathlib.Core.Bool.{Bool, true, false, _&&_, cond, and-assoc, and-true, false≢true}
+use mathlib.Core.Path.{_≡_, refl, sym, ap, _∙_}
+use mathlib.Core.Bool.{Bool, true, false, _&&_, and-assoc, and-true, false≢true}
 use mathlib.Core.List.{List, [], _∷_}
 use Prim.Native.Nat.{ℕ, zero, suc, _+_, _*_, _-_, _/_, _≤_, _<_, max}
 use native.Mathlib.Nat.{sub-zero}
 use native.Mathlib.Omega.{arith}
 use lib.ListN.{length}
-use lib.Dec.{eqb, ltb}
-use borrow.Author.Tests.{eq-eqb, ne-eqb, lt-ltb, le-ltb}
+use borrow.Author.Tests.{ne-eqb, lt-ltb, le-ltb}
 use Rattle.store.specs.declared.Trail.{Trail}
-use Rattle.store.specs.Chain.{walk, lastOf, greatest, all, distinct, sumOver}
+use Rattle.line.specs.Table.{every}
+use Rattle.store.specs.Chain.{walk, lastOf, greatest, sumOver}
 use Rattle.store.specs.Layout.{count, rec, next, recordOk, spanOf}
 use Rattle.store.specs.Store.{chain, chainOk, recordsOk}
 use Rattle.store.specs.Walk.{Sized, Passed, Walked}
@@ -47,7 +47,7 @@ pub record Going (s : List ℕ) (n : ℕ) (t : Trail) (i k : ℕ) : Type 0 where
   pub open-yet : t .ends ≡ false
   pub room : t .sum ≤ 4294967296 * k
   pub ending : ends (next s) n n (next s 0) ≡ ends (next s) n (n - k) i
-  pub fine : all (λ j. recordOk (rec s j)) (walk (next s) n (next s 0)) ≡ (t .fine && all (λ j. recordOk (rec s j)) (walk (next s) (n - k) i))
+  pub fine : every (λ j. recordOk (rec s j)) (walk (next s) n (next s 0)) ≡ (t .fine && every (λ j. recordOk (rec s j)) (walk (next s) (n - k) i))
   pub sum : sumOver (λ j. spanOf (rec s j)) (walk (next s) n (next s 0)) ≡ t .sum + sumOver (λ j. spanOf (rec s j)) (walk (next s) (n - k) i)
   pub last : lastOf 0 (walk (next s) n (next s 0)) ≡ lastOf (t .last) (walk (next s) (n - k) i)
   pub most : greatest (walk (next s) n (next s 0)) ≡ max (t .greatest) (greatest (walk (next s) (n - k) i))
@@ -83,8 +83,8 @@ going-step s n t t′ i i′ k g nz lt kt p e =
       open-yet = p .ends ∙ g .open-yet;
       room = omega (arith, g .room, p .room);
       ending = g .ending ∙ v;
-      fine = g .fine ∙ ap (λ (c : List ℕ). t .fine && all (λ j. recordOk (rec s j)) c) w ∙ sym (and-assoc (t .fine) (recordOk (rec s i)) (all (λ j. recordOk (rec s j)) (walk (next s) (n - (k + 1)) i′)))
-          ∙ ap (λ (x : Bool). x && all (λ j. recordOk (rec s j)) (walk (next s) (n - (k + 1)) i′)) (sym (p .fine));
+      fine = g .fine ∙ ap (λ (c : List ℕ). t .fine && every (λ j. recordOk (rec s j)) c) w ∙ sym (and-assoc (t .fine) (recordOk (rec s i)) (every (λ j. recordOk (rec s j)) (walk (next s) (n - (k + 1)) i′)))
+          ∙ ap (λ (x : Bool). x && every (λ j. recordOk (rec s j)) (walk (next s) (n - (k + 1)) i′)) (sym (p .fine));
       sum = g .sum ∙ ap (λ (c : List ℕ). t .sum + sumOver (λ j. spanOf (rec s j)) c) w ∙ omega (arith, p .sum);
       last = g .last ∙ ap (lastOf (t .last)) w ∙ ap (λ (x : ℕ). lastOf x (walk (next s) (n - (k + 1)) i′)) (sym (p .last));
       most = g .most ∙ ap (λ (c : List ℕ). max (t .greatest) (greatest c)) w ∙ max-three (t .greatest) i (greatest (walk (next s) (n - (k + 1)) i′))
@@ -120,7 +120,7 @@ going-end s n t i k g e =
     let c : walk (next s) (count s) (next s 0) ≡ walk (next s) n (next s 0) = ap (λ (m : ℕ). walk (next s) m (next s 0)) (sym (g .counted)) in
     record {
       ends = sym (chain-ends s n (g .size) (g .counted) ∙ g .ending ∙ ap (ends (next s) n (n - k)) e ∙ ends-zero (next s) n (n - k));
-      fine = λ h. sym (ap (all (λ j. recordOk (rec s j))) c ∙ g .fine ∙ ap (λ (x : List ℕ). t .fine && all (λ j. recordOk (rec s j)) x) w ∙ and-true (t .fine));
+      fine = λ h. sym (ap (every (λ j. recordOk (rec s j))) c ∙ g .fine ∙ ap (λ (x : List ℕ). t .fine && every (λ j. recordOk (rec s j)) x) w ∙ and-true (t .fine));
       sum = λ h. sym (ap (sumOver (λ j. spanOf (rec s j))) c ∙ g .sum ∙ ap (λ (x : List ℕ). t .sum + sumOver (λ j. spanOf (rec s j)) x) w ∙ omega arith);
       last = λ h. sym (ap (lastOf 0) c ∙ g .last ∙ ap (lastOf (t .last)) w);
       most = λ h. sym (ap greatest c ∙ g .most ∙ ap (λ (x : List ℕ). max (t .greatest) (greatest x)) w ∙ omega arith);

@@ -1,12 +1,12 @@
 -- Along an accepted chain, and its events as numbers. Assumes nothing.
-use mathlib.Core.Path.{_≡_, refl, sym, ap, ap₂, _∙_, subst}
-use mathlib.Core.Bool.{Bool, true, false, _&&_, cond}
+use mathlib.Core.Path.{_≡_, refl, sym, ap, ap₂, _∙_}
+use mathlib.Core.Bool.{true}
 use mathlib.Core.List.{List, [], _∷_, _++_}
 use Prim.Native.Nat.{ℕ, zero, suc, _+_, _*_, _-_, _≤_, _<_}
 use native.Mathlib.Nat.{sub-zero, add-zero}
 use native.Mathlib.Omega.{arith}
-use borrow.Author.Tests.{eq-eqb, ne-eqb, eqb-true, ltb-true, le-leb, lt-leb, leb-true}
-use lib.Dec.{eqb, ltb, leb}
+use borrow.Author.Tests.{eq-eqb, ne-eqb, eqb-true, ltb-true, le-leb, lt-leb}
+use lib.Dec.{ltb, leb}
 use lib.IntN.{ℤ, pos}
 use lib.ListN.{length, getD, drop, length-append}
 use lib.Seq.{sets}
@@ -18,7 +18,7 @@ use Rattle.octets.specs.Number.{i16, u32}
 use Rattle.octets.proofs.Tests.{and-split, left-done, left-kept, left-none}
 use Rattle.octets.proofs.Sets.{sets-then}
 use Rattle.store.specs.Chain.{walk, gather}
-use Rattle.store.specs.Layout.{Event, point, lost, count, rec, next, kind, held, isPoints, points, recordOk, eventsOf}
+use Rattle.store.specs.Layout.{Event, point, lost, count, rec, next, kind, held, points, eventsOf}
 use Rattle.line.specs.Refusal.{need, orNext}
 use Rattle.store.specs.Store.{chain, events, refusal}
 use Rattle.store.specs.Reads.{numbers, readNumber, readCount, readResult, numberOf, countsOf, Gives}
@@ -28,11 +28,11 @@ use Rattle.store.specs.Walk.{Sized, Tells}
 use Rattle.store.specs.declared.Inspected.{Inspected}
 use Rattle.store.specs.declared.Inspected.the-variants.{Refused as NotRead}
 use Rattle.store.proofs.Views.{told-refused}
-use Rattle.store.proofs.Chains.{All, ends, run-ends, run-short}
+use Rattle.store.proofs.Chains.{ends, run-ends, run-short}
 use Rattle.store.proofs.Going.{walk-step, walk-zero, ends-step}
 use Rattle.store.proofs.PointRuns.{point-at, drop-next}
 use Rattle.line.proofs.RefusalLaws.{or-some}
-use Rattle.store.proofs.Sounds.{Sound, accepted-sound}
+use Rattle.store.proofs.Sounds.{accepted-sound}
 
 -- ---- the chain
 -- what is left of the chain after k records, at index i

@@ -1,20 +1,21 @@
 -- An accepted store with its chain at hand. Assumes nothing.
-use mathlib.Core.Path.{_≡_, refl, sym, ap, _∙_, subst}
-use mathlib.Core.Bool.{Bool, true, false, _&&_, false≢true}
-use mathlib.Core.List.{List, [], _∷_}
-use Prim.Native.Nat.{ℕ, zero, suc, _+_, _*_, _-_, _/_, _%_, _≤_, _<_}
+use mathlib.Core.Path.{_≡_}
+use mathlib.Core.Bool.{true, _&&_}
+use mathlib.Core.List.{List}
+use Prim.Native.Nat.{ℕ, _*_, _-_, _%_, _≤_, _<_}
 use native.Mathlib.Omega.{arith}
 use borrow.Author.Tests.{eqb-true, eq-eqb, leb-true, le-leb}
 use lib.Dec.{eqb, leb}
 use lib.ListN.{length}
 use Rattle.line.proofs.RefusalLaws.{need-zero}
 use Rattle.octets.proofs.Tests.{and-split}
-use Rattle.store.specs.Chain.{all, distinct, greatest, lastOf, sumOver}
+use Rattle.line.specs.Table.{All}
+use Rattle.store.specs.Chain.{greatest, sumOver}
 use Rattle.store.specs.Layout.{count, rec, next, recordOk, spanOf}
-use Rattle.line.specs.Refusal.{need, orNext}
+use Rattle.line.specs.Refusal.{need}
 use Rattle.store.specs.Store.{chain, lastIn, total, sizeOk, headOk, chainOk, recordsOk, totalOk, refusal}
 use Rattle.store.specs.Walk.{Sized}
-use Rattle.store.proofs.Chains.{All, Run, all-true, true-all, walk-run, run-short, sound-run, run-sound, last-all, greatest-below}
+use Rattle.store.proofs.Chains.{Run, all-true, true-all, walk-run, run-short, sound-run, run-sound, last-all, greatest-below}
 
 -- ---- what an accepted store is, with its chain c at hand
 pub record Sound (s c : List ℕ) : Type 0 where

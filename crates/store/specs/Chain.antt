@@ -1,8 +1,9 @@
 -- Document 01, "Track store": next is an index, zero ends the chain. Nothing here knows bytes.
-use mathlib.Core.Bool.{Bool, true, false, not, _&&_}
+use mathlib.Core.Bool.{Bool, true, not, _&&_}
 use mathlib.Core.List.{List, [], _∷_, _++_}
 use Prim.Native.Nat.{ℕ, zero, suc, _+_, max}
 use lib.Dec.{eqb}
+use Rattle.line.specs.Table.{every}
 
 -- the indexes met from i on, at most n of them; 0 ends the chain
 abbrev pub walk : (ℕ → ℕ) → ℕ → ℕ → List ℕ
@@ -20,15 +21,10 @@ abbrev pub greatest : List ℕ → ℕ
 greatest [] = 0
 greatest (i ∷ c) = max i (greatest c)
 
--- a test holds of every index
-abbrev pub all : (ℕ → Bool) → List ℕ → Bool
-all p [] = true
-all p (x ∷ xs) = p x && all p xs
-
 -- no index is met twice
 abbrev pub distinct : List ℕ → Bool
 distinct [] = true
-distinct (i ∷ c) = all (λ j. not (eqb i j)) c && distinct c
+distinct (i ∷ c) = every (λ j. not (eqb i j)) c && distinct c
 
 -- the sum of a number for each index of a chain
 abbrev pub sumOver : (ℕ → ℕ) → List ℕ → ℕ

@@ -1,13 +1,14 @@
 -- Document 01, "Track store" and "Refusals": the chain, the events and the total of a store, and numbers 11 to 15.
-use mathlib.Core.Bool.{Bool, true, false, _&&_, _||_}
+use mathlib.Core.Bool.{Bool, _&&_}
 use mathlib.Core.List.{List, [], _∷_}
-use Prim.Native.Nat.{ℕ, zero, suc, _%_}
+use Prim.Native.Nat.{ℕ, _%_}
 use lib.Dec.{eqb, ltb, leb}
 use lib.ListN.{length, getD, drop}
-use Rattle.line.specs.Refusal.{need, orNext}
+use Rattle.line.specs.Refusal.{need}
+use Rattle.line.specs.Table.{every}
 use Rattle.line.specs.Mode.{isMode, isRole}
 use Rattle.octets.specs.Number.{u32, zeros}
-use Rattle.store.specs.Chain.{walk, lastOf, all, distinct, sumOver, gather}
+use Rattle.store.specs.Chain.{walk, lastOf, distinct, sumOver, gather}
 use Rattle.store.specs.Layout.{Event, count, rec, totalAt, next, recordOk, spanOf, eventsOf}
 
 -- the chain that starts in record 0: at most N indexes
@@ -44,11 +45,11 @@ headOk r = hasMark r && isMode (getD r 4 0) && isRole (getD r 4 0) (getD r 5 0) 
 
 -- 13: every index is below N and none is met twice
 unfoldable pub chainOk : List ℕ → Bool
-chainOk s = all (λ i. ltb i (count s)) (chain s) && distinct (chain s)
+chainOk s = every (λ i. ltb i (count s)) (chain s) && distinct (chain s)
 
 -- 14: every chain record keeps to the layout, its points in range
 unfoldable pub recordsOk : List ℕ → Bool
-recordsOk s = all (λ i. recordOk (rec s i)) (chain s)
+recordsOk s = every (λ i. recordOk (rec s i)) (chain s)
 
 -- 15: the total is the chain's sum
 unfoldable pub totalOk : List ℕ → Bool

@@ -1,10 +1,10 @@
 -- Needs, and what a call answers from what it looked at. Assumes nothing.
-use mathlib.Core.Path.{_≡_, refl, sym, ap, _∙_, subst}
-use mathlib.Core.Bool.{Bool, true, false, not, _&&_, _||_, cond, false≢true}
-use Prim.Native.Nat.{ℕ, zero, suc, _+_, _*_, _-_, _≤_, _<_}
+use mathlib.Core.Path.{_≡_, sym, ap, _∙_}
+use mathlib.Core.Bool.{true, false, not, _&&_, _||_}
+use Prim.Native.Nat.{ℕ, _+_, _*_, _-_, _≤_, _<_}
 use native.Mathlib.Omega.{arith}
 use borrow.Author.Tests.{eqb-true, eqb-false, leb-true, le-leb, lt-leb, ltb-true, not-true}
-use mathlib.Core.List.{List, [], _∷_}
+use mathlib.Core.List.{List}
 use lib.Dec.{eqb, leb, ltb}
 use lib.ListN.{length}
 use lib.Seq.{sets}
@@ -15,7 +15,7 @@ use Rattle.line.specs.Point.{inRange}
 use Rattle.store.specs.declared.View.{View}
 use Rattle.store.specs.Chain.{greatest}
 use Rattle.octets.specs.Number.{le16, le32}
-use Rattle.store.specs.Layout.{count, rec, write, linkIn, totalAt, held, isPoints, lostRecord}
+use Rattle.store.specs.Layout.{count, rec, write, linkIn, held, isPoints, lostRecord}
 use Rattle.track.specs.Append.{mostIntervals, newIndex, isFull, made, makeNumber, makeResult, lostAppended, lostNumber, lostResult, hasRoom, pointAppended, pointNumber, pointResult}
 use Rattle.line.specs.Refusal.{orNext}
 use Rattle.store.specs.Store.{lastIn}
@@ -26,7 +26,7 @@ use Rattle.store.proofs.Views.{told-refused}
 use Rattle.track.specs.Points.{spaces}
 use Rattle.octets.proofs.Tests.{by-test, and-split, left-done, left-kept}
 use Rattle.line.proofs.RefusalLaws.{need-zero, or-some, or-zero}
-use Rattle.store.proofs.Sounds.{Sound, accepted-sound, sound-last, sound-greatest}
+use Rattle.store.proofs.Sounds.{accepted-sound, sound-last, sound-greatest}
 
 -- ---- making
 pub make-done : (s : List ℕ) (mode role : ℕ) → makeNumber s mode role ≡ 0 → made (length s) mode role ≡ makeResult s mode role

@@ -1,31 +1,32 @@
 -- An append to an accepted store: the result is accepted, and its events are the old ones and the new. Assumes nothing.
 use mathlib.Core.Path.{_≡_, refl, sym, ap, ap₂, _∙_, subst}
-use mathlib.Core.Logic.{_≢_, ⊎-elim, _⊎_, inl, inr}
-use mathlib.Core.Bool.{Bool, true, false, not, _&&_, _||_, cond, true≢false, false≢true}
-use mathlib.Core.List.{List, [], _∷_, _++_, append-assoc, append-nil}
-use Prim.Native.Nat.{ℕ, zero, suc, _+_, _*_, _-_, _/_, _%_, _^_, _≤_, _<_, max}
+use mathlib.Core.Logic.{_≢_, inl}
+use mathlib.Core.Bool.{true, false, not, _&&_, false≢true}
+use mathlib.Core.List.{List, [], _∷_, _++_}
+use Prim.Native.Nat.{ℕ, zero, suc, _+_, _*_, _-_, _/_, _%_, _≤_, _<_}
 use native.Mathlib.Omega.{arith}
 use native.Mathlib.Numerals.{add-one}
-use borrow.Author.Tests.{ltb-true, lt-ltb, eqb-true, eqb-false, eq-eqb, leb-true, le-leb}
+use borrow.Author.Tests.{ltb-true, eqb-true, eqb-false, leb-true, le-leb}
 use lib.Dec.{eqb, ltb, leb}
 use lib.IntN.{ℤ, pos, negsuc, natAbs}
-use lib.ListN.{length, getD, take, drop, length-append, length-take, length-drop}
-use lib.Seq.{sets, length-sets, length-take-le}
+use lib.ListN.{length, getD, drop, length-drop}
+use lib.Seq.{sets, length-sets}
 use mir.Syntax.{w16}
 use mir.Val.{SFits}
+use Rattle.line.specs.Table.{All}
 use Rattle.line.specs.declared.Point.{Point}
 use Rattle.line.specs.Point.{at, inRange}
-use Rattle.octets.specs.Number.{u16, u32, le16, le32, pattern, signed, i16, leI16, zeros}
+use Rattle.octets.specs.Number.{u16, u32, le16, le32, pattern, signed, zeros}
 use Rattle.octets.proofs.Tests.{by-test, and-split, and-join}
-use Rattle.octets.proofs.Sets.{take-sets-le, drop-sets-le, getD-sets-in, getD-sets-out, drop-sets-in, sets-whole}
-use Rattle.octets.proofs.Numbers.{halves, quarters, u16-out, u16-in, u16-at, u32-in, pattern-small, signed-pattern}
+use Rattle.octets.proofs.Sets.{drop-sets-le, getD-sets-in, getD-sets-out, drop-sets-in, sets-whole}
+use Rattle.octets.proofs.Numbers.{halves, quarters, u16-out, u16-at, pattern-small, signed-pattern}
 use Rattle.octets.proofs.Loops.{zeros-drop}
-use Rattle.store.specs.Chain.{walk, lastOf, greatest, all, distinct, sumOver, gather}
-use Rattle.store.specs.Layout.{Event, point, lost, count, rec, write, linkIn, totalAt, next, held, isPoints, pointAt, points, pointsOk, recordOk, spanOf, eventsOf, lostRecord, pointBytes, pointRecord}
-use Rattle.store.specs.Store.{chain, events, total, headOk, refusal}
+use Rattle.store.specs.Chain.{lastOf, greatest, gather}
+use Rattle.store.specs.Layout.{Event, point, lost, count, rec, write, linkIn, next, held, isPoints, pointAt, points, pointsOk, recordOk, spanOf, eventsOf, lostRecord, pointBytes, pointRecord}
+use Rattle.store.specs.Store.{chain, events, total, refusal}
 use Rattle.track.specs.Append.{newIndex, linked, lostAppended, hasRoom, grown, pointAppended}
 use Rattle.store.specs.Store.{lastIn}
-use Rattle.store.proofs.Chains.{All, NoDup, Run, all-map, all-zip, run-positive, run-no-dup, last-all, all-snoc, run-extend, gather-same, gather-snoc, gather-last, sum-same, sum-snoc, sum-last, below-greatest, run-same}
+use Rattle.store.proofs.Chains.{NoDup, Run, all-map, all-zip, run-positive, run-no-dup, last-all, all-snoc, run-extend, gather-same, gather-snoc, gather-last, sum-same, sum-snoc, sum-last, below-greatest, run-same}
 use Rattle.store.proofs.Records.{rec-write-same, rec-write-other, rec-length, length-write, link-small, link-later, next-other, next-link, next-total, head-in, head-out, head-link, total-write}
 use Rattle.store.proofs.Sounds.{Sound, sound-chain, sound-accepted, accepted-sound}
 

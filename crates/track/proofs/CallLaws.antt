@@ -2,20 +2,17 @@
 use mathlib.Core.Path.{_≡_, refl, sym, ap, _∙_, subst}
 use mathlib.Core.Bool.{true}
 use mathlib.Core.List.{List, [], _∷_, _++_, append-assoc, append-nil}
-use Prim.Native.Nat.{ℕ, zero, suc, _+_, _*_, _≤_}
+use Prim.Native.Nat.{ℕ, zero, suc, _+_, _*_}
 use native.Mathlib.Omega.{arith}
 use borrow.Author.Tests.{eqb-true, eqb-false, le-leb}
 use lib.Dec.{eqb, leb}
 use lib.ListN.{length, drop}
-use lib.IntN.{ℤ}
-use lib.Seq.{sets}
 use Rattle.octets.proofs.Tests.{by-test, left-kept}
 use Rattle.store.specs.Chain.{sumOver, gather}
 use Rattle.store.specs.Layout.{Event, point, lost, rec, held, isPoints, points, spanOf, eventsOf}
-use Rattle.store.specs.Reads.{numbers, readNumber, readCount, readResult}
+use Rattle.store.specs.Reads.{readNumber, readCount, readResult}
 use Rattle.store.proofs.Sounds.{accepted-sound}
-use Rattle.store.specs.Store.{chain, events, total, refusal}
-use Rattle.octets.specs.Number.{u32}
+use Rattle.store.specs.Store.{chain, events, refusal}
 use Rattle.track.specs.Append.{makeResult}
 use Rattle.track.proofs.Makes.{make-law}
 use Rattle.track.specs.Calls.{callNumber, callResult, intervals, intervalsOf, after, taken, Holds, AppendsRead, MadeEmpty, MadeRead, TotalGrows, TotalSums}

@@ -1,10 +1,9 @@
 -- A store just made is accepted and holds no event. Assumes nothing.
-use mathlib.Core.Path.{_≡_, refl, sym, ap, _∙_, subst}
-use mathlib.Core.Bool.{Bool, true, false, _&&_}
+use mathlib.Core.Path.{_≡_, sym, ap, _∙_, subst}
 use mathlib.Core.List.{List, [], _∷_, _++_}
-use Prim.Native.Nat.{ℕ, zero, suc, _+_, _*_, _-_, _/_, _≤_, _<_}
+use Prim.Native.Nat.{ℕ, _+_, _-_, _/_, _≤_}
 use native.Mathlib.Omega.{arith}
-use lib.ListN.{length, take, drop, replicate, length-replicate, replicate-append-replicate}
+use lib.ListN.{length, take, replicate, length-replicate, replicate-append-replicate}
 use lib.Seq.{sets, length-sets, take-append-seam}
 use Rattle.line.specs.Mode.{isMode, isRole}
 use Rattle.octets.specs.Number.{u16, u32}

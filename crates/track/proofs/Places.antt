@@ -1,13 +1,13 @@
 -- A point placed in an accepted store: what an append has to know of the store after it. Assumes nothing.
-use mathlib.Core.Path.{_≡_, refl, sym, ap, ap₂, _∙_, subst}
-use mathlib.Core.Bool.{Bool, true, false, not, _&&_, cond}
+use mathlib.Core.Path.{_≡_, refl, sym, ap, ap₂, _∙_}
+use mathlib.Core.Bool.{true, false}
 use mathlib.Core.List.{List, [], _∷_, _++_}
 use mathlib.Core.Logic.{_⊎_, inl, inr}
 use native.Mathlib.Numerals.{add-one}
 use Prim.Native.Nat.{ℕ, zero, suc, _+_, _*_, _-_, _/_, _≤_, _<_}
 use native.Mathlib.Omega.{arith}
 use borrow.Author.Tests.{ne-eqb, lt-ltb, le-ltb, ltb-true, ltb-false}
-use lib.Dec.{eqb, ltb}
+use lib.Dec.{ltb}
 use lib.ListN.{length, set}
 use lib.Seq.{sets}
 use Rattle.line.specs.declared.Point.{Point}
@@ -18,8 +18,8 @@ use Rattle.store.specs.declared.View.{View}
 use Rattle.store.specs.Walk.{Viewed}
 use Rattle.track.specs.declared.End.{End}
 use Rattle.store.specs.Chain.{greatest, lastOf}
-use Rattle.store.specs.Layout.{point, count, rec, write, linkIn, totalAt, held, isPoints, pointBytes, pointRecord}
-use Rattle.store.specs.Store.{chain, total, refusal}
+use Rattle.store.specs.Layout.{point, count, rec, write, linkIn, totalAt, held, pointBytes, pointRecord}
+use Rattle.store.specs.Store.{chain, total}
 use Rattle.track.specs.Append.{newIndex, hasRoom, pointAppended, pointNumber}
 use Rattle.store.specs.Store.{lastIn}
 use Rattle.track.specs.Points.{spaces}

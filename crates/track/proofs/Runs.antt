@@ -20,7 +20,7 @@ use Rattle.octets.specs.Number.{le32}
 use Rattle.store.specs.declared.View.{View}
 use Rattle.store.specs.declared.Inspected.{Inspected}
 use Rattle.store.specs.declared.Inspected.the-variants.{Refused}
-use Rattle.store.specs.Layout.{Event, point, count}
+use Rattle.store.specs.Layout.{Event, point}
 use Rattle.store.specs.Store.{lastIn, total, refusal}
 use Rattle.store.specs.Walk.{Tells, Viewed}
 use Rattle.store.proofs.Sounds.{accepted-sound, sound-last}

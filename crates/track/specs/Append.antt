@@ -1,8 +1,8 @@
 -- Document 01, "Track store" and "Refusals": making a store and appending to it. A call gives the lowest number that applies,
 -- 0 where none does, and a refusal leaves every byte.
-use mathlib.Core.Bool.{Bool, true, false, not, _&&_, _||_, cond}
+use mathlib.Core.Bool.{Bool, not, _&&_, _||_, cond}
 use mathlib.Core.List.{List, [], _∷_, _++_}
-use Prim.Native.Nat.{ℕ, zero, suc, _+_, _*_}
+use Prim.Native.Nat.{ℕ, _+_, _*_}
 use lib.Dec.{eqb, ltb, leb}
 use lib.ListN.{length, replicate}
 use lib.Seq.{sets}

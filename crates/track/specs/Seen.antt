@@ -1,18 +1,16 @@
 -- The end of a chain, where points are placed: the contracts of the private functions.
 use mathlib.Core.Path.{_≡_}
-use mathlib.Core.Bool.{Bool, true, not, _&&_, cond}
+use mathlib.Core.Bool.{cond}
 use mathlib.Core.List.{List, [], _∷_}
-use Prim.Native.Nat.{ℕ, zero, suc, _+_, _*_, _-_, _≤_, _<_, min}
-use lib.Dec.{ltb, leb}
+use Prim.Native.Nat.{ℕ, _+_, _*_, _-_, _≤_, _<_}
+use lib.Dec.{ltb}
 use Rattle.line.specs.declared.Point.{Point}
-use Rattle.line.specs.Point.{inRange}
 use Rattle.octets.specs.Number.{le16}
 use Rattle.store.specs.Chain.{greatest}
-use Rattle.store.specs.Layout.{count, rec, write, linkIn, held, pointBytes, pointRecord}
-use Rattle.line.specs.Refusal.{need, orNext}
+use Rattle.store.specs.Layout.{rec, write, linkIn, held, pointBytes, pointRecord}
 use Rattle.store.specs.Store.{chain, lastIn, total, refusal}
 use Rattle.track.specs.declared.End.{End}
-use Rattle.track.specs.Append.{mostIntervals, newIndex, hasRoom}
+use Rattle.track.specs.Append.{hasRoom}
 
 -- the end of an accepted store's chain, and the store's total t; 7 held: the last record has no room for a point
 pub record Ends (s : List ℕ) (t : ℕ) (e : End) : Type 0 where

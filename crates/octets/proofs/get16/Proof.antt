@@ -5,9 +5,6 @@ use native.Mathlib.Omega.{arith}
 use borrow.Author.Needs.{needs}
 use Rattle.octets.proofs.get16.Statement.{statement}
 use Rattle.octets.proofs.get16.Tie as tie
-use Rattle.octets.proofs.get16.Reads as reads
-use Rattle.octets.proofs.get16.Lts as lts
-use Rattle.octets.proofs.get8.Reads as get8-reads
 
 get8-requires : tie.Need-get8-requires
 get8-requires c κs = search needs

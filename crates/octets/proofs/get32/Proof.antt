@@ -5,9 +5,6 @@ use native.Mathlib.Omega.{arith}
 use borrow.Author.Needs.{needs}
 use Rattle.octets.proofs.get32.Statement.{statement}
 use Rattle.octets.proofs.get32.Tie as tie
-use Rattle.octets.proofs.get32.Reads as reads
-use Rattle.octets.proofs.get32.Lts as lts
-use Rattle.octets.proofs.get16.Reads as get16-reads
 
 get16-requires : tie.Need-get16-requires
 get16-requires c κs = search needs

@@ -5,9 +5,6 @@ use lib.ListN.{List·getD-eq-default}
 use borrow.Author.Needs.{needs}
 use Rattle.octets.proofs.get8.Statement.{statement}
 use Rattle.octets.proofs.get8.Tie as tie
-use Rattle.octets.proofs.get8.Reads as reads
-use Rattle.octets.proofs.get8.Lts as lts
-use Rattle.octets.proofs.wide.Reads as wide-reads
 
 shared-slice-read-wide : tie.Need-shared-slice-read-wide
 shared-slice-read-wide c = search needs

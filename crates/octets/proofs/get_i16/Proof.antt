@@ -1,14 +1,10 @@
 use Rattle.octets.proofs.Signs.{sfits-signed}
 use Rattle.octets.specs.Number.{signed}
-use mathlib.Core.Path.{_≡_, refl, sym, ap, _∙_}
+use mathlib.Core.Path.{ap}
 use mir.Facts.{toZ-ofZ}
 use borrow.Author.Needs.{needs}
 use Rattle.octets.proofs.get_i16.Statement.{statement}
 use Rattle.octets.proofs.get_i16.Tie as tie
-use Rattle.octets.proofs.get_i16.Reads as reads
-use Rattle.octets.proofs.get_i16.Lts as lts
-use Rattle.octets.proofs.get16.Reads as get16-reads
-use Rattle.octets.proofs.signed_of.Reads as signed-of-reads
 
 get16-requires : tie.Need-get16-requires
 get16-requires c κs = search needs

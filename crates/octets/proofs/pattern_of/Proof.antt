@@ -1,15 +1,13 @@
 use Rattle.octets.proofs.Signs.{sign-is, pattern-not-below, pattern-below, fits-pattern, sfits-pattern}
 use Rattle.octets.proofs.Numbers.{pattern-small}
-use Rattle.line.proofs.Signed.{back, is-true, fits-size}
+use Rattle.line.proofs.Signed.{back, is-true}
 use lib.Signed.{nonNeg}
 use mathlib.Core.Bool.{true}
-use mir.Syntax.{w16, w32}
+use mir.Syntax.{w32}
 use mir.Facts.{sfits-widen, toZ-ofZ}
-use mathlib.Core.Path.{_≡_, refl, sym, ap, _∙_}
+use mathlib.Core.Path.{refl}
 use Rattle.octets.proofs.pattern_of.Statement.{statement}
 use Rattle.octets.proofs.pattern_of.Tie as tie
-use Rattle.octets.proofs.pattern_of.Reads as reads
-use Rattle.octets.proofs.pattern_of.Lts as lts
 
 cast-result : tie.Need-cast-result
 cast-result c = let x = c .before .args .x in let f = c .before .fits .x in rw (back x f, pattern-not-below x (sign-is x f true (c .if1 .taken))) (is-true (nonNeg x) (sign-is x f true (c .if1 .taken)), fits-pattern x f)

@@ -1,15 +1,11 @@
 use native.Mathlib.Numerals.{add-one}
-use Rattle.octets.specs.Number.{le16, le32}
-use mathlib.Core.List.{[], _∷_}
+use Rattle.octets.specs.Number.{le16}
 use denote.Ref.{now}
 use Rattle.octets.proofs.Sets.{sets-out}
 use mathlib.Core.Path.{sym}
 use borrow.Author.Needs.{needs}
 use Rattle.octets.proofs.put16.Statement.{statement}
 use Rattle.octets.proofs.put16.Tie as tie
-use Rattle.octets.proofs.put16.Reads as reads
-use Rattle.octets.proofs.put16.Lts as lts
-use Rattle.octets.proofs.put8.Reads as put8-reads
 
 cast-put8 : tie.Need-cast-put8
 cast-put8 c = search needs

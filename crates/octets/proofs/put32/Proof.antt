@@ -2,16 +2,12 @@ use Prim.Native.Nat.{_+_, _%_, _/_}
 use mathlib.Core.Path.{refl}
 use Rattle.octets.proofs.Sets.{sets-then}
 use Rattle.octets.specs.Number.{le16, le32}
-use mathlib.Core.List.{[], _∷_}
 use denote.Ref.{now}
 use Rattle.octets.proofs.Sets.{sets-out}
 use mathlib.Core.Path.{sym}
 use borrow.Author.Needs.{needs}
 use Rattle.octets.proofs.put32.Statement.{statement}
 use Rattle.octets.proofs.put32.Tie as tie
-use Rattle.octets.proofs.put32.Reads as reads
-use Rattle.octets.proofs.put32.Lts as lts
-use Rattle.octets.proofs.put16.Reads as put16-reads
 
 put16-requires : tie.Need-put16-requires
 put16-requires c κs = search needs

@@ -5,8 +5,6 @@ use mathlib.Core.Path.{sym}
 use borrow.Author.Needs.{needs}
 use Rattle.octets.proofs.put8.Statement.{statement}
 use Rattle.octets.proofs.put8.Tie as tie
-use Rattle.octets.proofs.put8.Reads as reads
-use Rattle.octets.proofs.put8.Lts as lts
 
 slice-write-s : tie.Need-slice-write-s
 slice-write-s c = search needs

@@ -7,12 +7,9 @@ use lib.Seq.{sets}
 use lib.ListN.{length, getD, drop, length-set}
 use borrow.Author.Needs.{needs}
 use Prim.Native.Nat.{_+_, _-_, _≤_, min}
-use mathlib.Core.Path.{_≡_, refl, sym, ap, _∙_}
+use mathlib.Core.Path.{_≡_, refl, sym, _∙_}
 use Rattle.octets.proofs.put_all.Statement.{statement}
 use Rattle.octets.proofs.put_all.Tie as tie
-use Rattle.octets.proofs.put_all.Reads as reads
-use Rattle.octets.proofs.put_all.Lts as lts
-use Rattle.octets.proofs.lesser.Reads as lesser-reads
 
 abbrev Inv-loop : tie.InvT-loop
 Inv-loop s₀ at r n k₀ s k = (k ≤ n) × (n ≡ min (length s₀ - at) (length r)) × (length s ≡ length s₀) × (sets s (at + k) (drop k r) ≡ sets s₀ at r)

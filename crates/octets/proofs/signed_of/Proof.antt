@@ -1,14 +1,10 @@
-use mir.Val.{toZ, ofZ}
 use Rattle.octets.proofs.Signs.{signed-wide, signed-low, sfits-signed}
 use native.Mathlib.Omega.{arith}
-use mir.Syntax.{w16, w32}
+use mir.Syntax.{w32}
 use mir.Facts.{sfits-widen, toZ-ofZ}
-use mathlib.Core.Path.{_≡_, refl, sym, ap, _∙_}
 use borrow.Author.Needs.{needs}
 use Rattle.octets.proofs.signed_of.Statement.{statement}
 use Rattle.octets.proofs.signed_of.Tie as tie
-use Rattle.octets.proofs.signed_of.Reads as reads
-use Rattle.octets.proofs.signed_of.Lts as lts
 
 cast-result : tie.Need-cast-result
 cast-result c = search needs

@@ -8,8 +8,6 @@ use lib.ListN.{length, drop}
 use Rattle.octets.specs.Number.{zeros}
 use Rattle.octets.proofs.zero_from.Statement.{statement}
 use Rattle.octets.proofs.zero_from.Tie as tie
-use Rattle.octets.proofs.zero_from.Reads as reads
-use Rattle.octets.proofs.zero_from.Lts as lts
 
 abbrev Inv-loop : tie.InvT-loop
 Inv-loop s at clear₀ i₀ clear i = zeros (drop at s) ≡ (clear && zeros (drop i s))

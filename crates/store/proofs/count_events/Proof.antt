@@ -1,22 +1,16 @@
 use Rattle.store.proofs.Sounds.{accepted-sound}
-use mathlib.Core.Path.{_≡_, refl, sym, ap, _∙_}
+use mathlib.Core.Path.{ap, _∙_}
 use Prim.Native.Nat.{ℕ}
 use mathlib.Core.List.{List}
 use lib.ListN.{length}
 use Rattle.store.specs.Layout.{eventsOf}
-use Prim.Native.Nat.{_-_, _*_}
+use Prim.Native.Nat.{_-_}
 use native.Mathlib.Omega.{arith}
 use borrow.Author.Needs.{needs}
-use denote.Ref.{now}
 use Rattle.store.specs.Layout.{count}
 use Rattle.store.proofs.Readings.{Counting, counting-start, counting-step, counting-end, along-in}
 use Rattle.store.proofs.count_events.Statement.{statement}
 use Rattle.store.proofs.count_events.Tie as tie
-use Rattle.store.proofs.count_events.Reads as reads
-use Rattle.store.proofs.count_events.Lts as lts
-use Rattle.store.proofs.events_in.Reads as events-in-reads
-use Rattle.store.proofs.next_of.Reads as next-of-reads
-use Rattle.store.proofs.record_at.Reads as record-at-reads
 
 abbrev Inv-loop : tie.InvT-loop
 Inv-loop s n₀ k₀ i₀ n k i = Counting s n k i

@@ -3,10 +3,6 @@ use native.Mathlib.Omega.{arith}
 use Rattle.store.proofs.Going.{Going, going-start, going-step, going-past, going-long, going-end}
 use Rattle.store.proofs.follow.Statement.{statement}
 use Rattle.store.proofs.follow.Tie as tie
-use Rattle.store.proofs.follow.Reads as reads
-use Rattle.store.proofs.follow.Lts as lts
-use Rattle.store.proofs.next_of.Reads as next-of-reads
-use Rattle.store.proofs.passed.Reads as passed-reads
 
 abbrev Inv-loop : tie.InvT-loop
 Inv-loop s n t₀ i₀ k₀ t i k = Going s n t i k

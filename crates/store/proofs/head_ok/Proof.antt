@@ -2,12 +2,6 @@ use Rattle.store.specs.Store.{headOk}
 use borrow.Author.Needs.{needs}
 use Rattle.store.proofs.head_ok.Statement.{statement}
 use Rattle.store.proofs.head_ok.Tie as tie
-use Rattle.store.proofs.head_ok.Reads as reads
-use Rattle.store.proofs.head_ok.Lts as lts
-use Rattle.line.proofs.mode_ok.Reads as mode-ok-reads
-use Rattle.line.proofs.role_ok.Reads as role-ok-reads
-use Rattle.octets.proofs.zero_from.Reads as zero-from-reads
-use Rattle.store.proofs.has_mark.Reads as has-mark-reads
 
 has-mark-requires : tie.Need-has-mark-requires
 has-mark-requires c κs = search needs

@@ -3,10 +3,6 @@ use Rattle.store.proofs.Views.{tells-size}
 use borrow.Author.Needs.{needs}
 use Rattle.store.proofs.inspect.Statement.{statement}
 use Rattle.store.proofs.inspect.Tie as tie
-use Rattle.store.proofs.inspect.Reads as reads
-use Rattle.store.proofs.inspect.Lts as lts
-use Rattle.store.proofs.inspect_sized.Reads as inspect-sized-reads
-use Rattle.store.proofs.size_ok.Reads as size-ok-reads
 
 size-ok-requires : tie.Need-size-ok-requires
 size-ok-requires c κs = search needs

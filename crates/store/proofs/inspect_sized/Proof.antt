@@ -1,5 +1,5 @@
 use denote.Ref.{now}
-use mathlib.Core.Path.{sym, ap, _∙_}
+use mathlib.Core.Path.{ap, _∙_}
 use native.Mathlib.Omega.{arith}
 use Rattle.store.specs.Store.{headOk}
 use Rattle.store.proofs.Sounds.{size-sized}
@@ -7,13 +7,6 @@ use Rattle.store.proofs.Views.{sized-number, tells-refused, tells-accep
 use borrow.Author.Needs.{needs}
 use Rattle.store.proofs.inspect_sized.Statement.{statement}
 use Rattle.store.proofs.inspect_sized.Tie as tie
-use Rattle.store.proofs.inspect_sized.Reads as reads
-use Rattle.store.proofs.inspect_sized.Lts as lts
-use Rattle.line.proofs.need.Reads as need-reads
-use Rattle.octets.proofs.get32.Reads as get32-reads
-use Rattle.store.proofs.follow.Reads as follow-reads
-use Rattle.store.proofs.head_ok.Reads as head-ok-reads
-use Rattle.store.proofs.record_at.Reads as record-at-reads
 
 follow-requires : tie.Need-follow-requires
 follow-requires c κs = size-sized (now (c .before .args .s)) (c .before .pre)

@@ -1,10 +1,7 @@
 use native.Mathlib.Omega.{arith}
 use Rattle.store.proofs.Records.{link-first, link-later}
-use borrow.Author.Needs.{needs}
 use Rattle.store.proofs.link_in.Statement.{statement}
 use Rattle.store.proofs.link_in.Tie as tie
-use Rattle.store.proofs.link_in.Reads as reads
-use Rattle.store.proofs.link_in.Lts as lts
 
 returns : tie.Need-returns
 returns c = omega (arith, link-first (c .before .args .i) (c .if1 .taken))

@@ -1,11 +1,9 @@
 use Rattle.store.proofs.Sounds.{accepted-sound}
-use mathlib.Core.Path.{_≡_, refl, sym, ap, _∙_}
+use mathlib.Core.Path.{ap, _∙_}
 use Prim.Native.Nat.{ℕ, _-_, _+_, _*_}
 use mathlib.Core.List.{List}
 use native.Mathlib.Omega.{arith}
 use borrow.Author.Needs.{needs}
-use denote.Ref.{now}
-use lib.IntN.{ℤ}
 use lib.ListN.{length}
 use lib.Seq.{sets}
 use Rattle.store.specs.Layout.{count, eventsOf}
@@ -13,11 +11,6 @@ use Rattle.store.specs.Reads.{numbers}
 use Rattle.store.proofs.Readings.{Copying, copying-start, copying-room, copying-step, copying-end, along-in}
 use Rattle.store.proofs.put_chain.Statement.{statement}
 use Rattle.store.proofs.put_chain.Tie as tie
-use Rattle.store.proofs.put_chain.Reads as reads
-use Rattle.store.proofs.put_chain.Lts as lts
-use Rattle.store.proofs.next_of.Reads as next-of-reads
-use Rattle.store.proofs.put_events.Reads as put-events-reads
-use Rattle.store.proofs.record_at.Reads as record-at-reads
 
 abbrev Inv-loop : tie.InvT-loop
 Inv-loop s out₀ offset at₀ k₀ i₀ out at k i = Copying s out₀ out offset at k i

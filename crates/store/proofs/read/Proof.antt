@@ -4,10 +4,6 @@ use Rattle.store.proofs.Readings.{read-past, read-unread}
 use borrow.Author.Needs.{needs}
 use Rattle.store.proofs.read.Statement.{statement}
 use Rattle.store.proofs.read.Tie as tie
-use Rattle.store.proofs.read.Reads as reads
-use Rattle.store.proofs.read.Lts as lts
-use Rattle.store.proofs.inspect.Reads as inspect-reads
-use Rattle.store.proofs.read_accepted.Reads as read-accepted-reads
 
 returns : tie.Need-returns
 returns c = let a = c .before .before .args in read-past (now (a .store)) (now (a .out)) (a .offset) (c .if1 .taken)

@@ -4,10 +4,6 @@ use Rattle.store.proofs.Readings.{read-few, read-done}
 use borrow.Author.Needs.{needs}
 use Rattle.store.proofs.read_accepted.Statement.{statement}
 use Rattle.store.proofs.read_accepted.Tie as tie
-use Rattle.store.proofs.read_accepted.Reads as reads
-use Rattle.store.proofs.read_accepted.Lts as lts
-use Rattle.store.proofs.count_events.Reads as count-events-reads
-use Rattle.store.proofs.put_chain.Reads as put-chain-reads
 
 count-events-requires : tie.Need-count-events-requires
 count-events-requires c κs = search needs

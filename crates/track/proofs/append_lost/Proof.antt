@@ -5,10 +5,6 @@ use Rattle.track.proofs.Answers.{lost-none, lost-refused}
 use borrow.Author.Needs.{needs}
 use Rattle.track.proofs.append_lost.Statement.{statement}
 use Rattle.track.proofs.append_lost.Tie as tie
-use Rattle.track.proofs.append_lost.Reads as reads
-use Rattle.track.proofs.append_lost.Lts as lts
-use Rattle.store.proofs.inspect.Reads as inspect-reads
-use Rattle.track.proofs.link_lost.Reads as link-lost-reads
 
 returns : tie.Need-returns
 returns c = lost-none (now (c .before .before .args .store)) (c .before .before .args .n) (c .if1 .taken)

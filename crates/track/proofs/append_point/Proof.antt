@@ -1,14 +1,10 @@
 use mir.Facts.{toZ-ofZ}
 use Rattle.track.proofs.Runs.{one-number, one-result}
-use mathlib.Core.Path.{_≡_, refl, sym, ap, _∙_}
+use mathlib.Core.Path.{_∙_}
 use denote.Ref.{now}
-use native.Mathlib.Omega.{arith}
 use borrow.Author.Needs.{needs}
 use Rattle.track.proofs.append_point.Statement.{statement}
 use Rattle.track.proofs.append_point.Tie as tie
-use Rattle.track.proofs.append_point.Reads as reads
-use Rattle.track.proofs.append_point.Lts as lts
-use Rattle.track.proofs.append_points.Reads as append-points-reads
 
 slice-aggregate-append-points : tie.Need-slice-aggregate-append-points
 slice-aggregate-append-points c = search needs

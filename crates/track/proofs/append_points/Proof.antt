@@ -6,11 +6,6 @@ use Rattle.track.proofs.Runs.{points-odd, points-out, points-refused}
 use borrow.Author.Needs.{needs}
 use Rattle.track.proofs.append_points.Statement.{statement}
 use Rattle.track.proofs.append_points.Tie as tie
-use Rattle.track.proofs.append_points.Reads as reads
-use Rattle.track.proofs.append_points.Lts as lts
-use Rattle.line.proofs.all_in_range.Reads as all-in-range-reads
-use Rattle.store.proofs.inspect.Reads as inspect-reads
-use Rattle.track.proofs.place_all.Reads as place-all-reads
 
 returns : tie.Need-returns
 returns c = points-odd (now (c .before .before .args .store)) (now (c .before .before .args .points)) (c .if1 .taken)

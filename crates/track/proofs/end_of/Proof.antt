@@ -1,14 +1,9 @@
-use mathlib.Core.Path.{_≡_, refl, sym, ap, _∙_}
+use mathlib.Core.Path.{sym, _∙_}
 use denote.Ref.{now}
-use native.Mathlib.Omega.{arith}
 use Rattle.track.proofs.Places.{ends-room, ends-full}
 use borrow.Author.Needs.{needs}
 use Rattle.track.proofs.end_of.Statement.{statement}
 use Rattle.track.proofs.end_of.Tie as tie
-use Rattle.track.proofs.end_of.Reads as reads
-use Rattle.track.proofs.end_of.Lts as lts
-use Rattle.track.proofs.has_room.Reads as has-room-reads
-use Rattle.track.proofs.held_in.Reads as held-in-reads
 
 has-room-requires : tie.Need-has-room-requires
 has-room-requires c κs = search needs

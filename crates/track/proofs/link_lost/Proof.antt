@@ -1,16 +1,10 @@
 use denote.Ref.{now}
-use mathlib.Core.Path.{refl, sym, ap, _∙_}
+use mathlib.Core.Path.{sym, ap, _∙_}
 use lib.ListN.{length}
 use Rattle.track.proofs.Answers.{lost-seen, lost-reach, lost-linked, lost-kept}
 use borrow.Author.Needs.{needs}
 use Rattle.track.proofs.link_lost.Statement.{statement}
 use Rattle.track.proofs.link_lost.Tie as tie
-use Rattle.track.proofs.link_lost.Reads as reads
-use Rattle.track.proofs.link_lost.Lts as lts
-use Rattle.line.proofs.need.Reads as need-reads
-use Rattle.octets.proofs.put32.Reads as put32-reads
-use Rattle.track.proofs.link.Reads as link-reads
-use Rattle.track.proofs.lost_record.Reads as lost-record-reads
 
 add-new : tie.Need-add-new
 add-new c = search needs

@@ -5,13 +5,6 @@ use Rattle.track.proofs.Answers.{make-done, make-kept}
 use borrow.Author.Needs.{needs}
 use Rattle.track.proofs.make.Statement.{statement}
 use Rattle.track.proofs.make.Tie as tie
-use Rattle.track.proofs.make.Reads as reads
-use Rattle.track.proofs.make.Lts as lts
-use Rattle.line.proofs.mode_fault.Reads as mode-fault-reads
-use Rattle.line.proofs.need.Reads as need-reads
-use Rattle.line.proofs.or_next.Reads as or-next-reads
-use Rattle.store.proofs.size_ok.Reads as size-ok-reads
-use Rattle.track.proofs.put_head.Reads as put-head-reads
 
 mode-fault-requires : tie.Need-mode-fault-requires
 mode-fault-requires c κs = search needs

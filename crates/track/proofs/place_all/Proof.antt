@@ -4,11 +4,6 @@ use Rattle.track.proofs.Runs.{points-seen, points-free, points-done, po
 use borrow.Author.Needs.{needs}
 use Rattle.track.proofs.place_all.Statement.{statement}
 use Rattle.track.proofs.place_all.Tie as tie
-use Rattle.track.proofs.place_all.Reads as reads
-use Rattle.track.proofs.place_all.Lts as lts
-use Rattle.line.proofs.need.Reads as need-reads
-use Rattle.track.proofs.place_points.Reads as place-points-reads
-use Rattle.track.proofs.room_for.Reads as room-for-reads
 
 add-need : tie.Need-add-need
 add-need c = search needs

@@ -1,4 +1,4 @@
-use mathlib.Core.Path.{_≡_, refl, sym, ap, _∙_}
+use mathlib.Core.Path.{ap}
 use denote.Ref.{now}
 use native.Mathlib.Omega.{arith}
 use mir.Facts.{toZ-ofZ}
@@ -8,11 +8,6 @@ use Rattle.track.proofs.Places.{placed-grown, placed-linked}
 use borrow.Author.Needs.{needs}
 use Rattle.track.proofs.place_point.Statement.{statement}
 use Rattle.track.proofs.place_point.Tie as tie
-use Rattle.track.proofs.place_point.Reads as reads
-use Rattle.track.proofs.place_point.Lts as lts
-use Rattle.track.proofs.grow.Reads as grow-reads
-use Rattle.track.proofs.link.Reads as link-reads
-use Rattle.track.proofs.point_record.Reads as point-record-reads
 
 grow-requires : tie.Need-grow-requires
 grow-requires c κs = search needs

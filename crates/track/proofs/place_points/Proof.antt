@@ -1,4 +1,3 @@
-use mathlib.Core.Path.{_≡_, refl, sym, ap, _∙_}
 use denote.Ref.{now}
 use native.Mathlib.Omega.{arith}
 use mir.Facts.{toZ-ofZ}
@@ -9,11 +8,6 @@ use lib.ListN.{length}
 use Rattle.track.proofs.Runs.{Placing, placing-start, placing-reach, placing-step, placing-end, placing-none}
 use Rattle.track.proofs.place_points.Statement.{statement}
 use Rattle.track.proofs.place_points.Tie as tie
-use Rattle.track.proofs.place_points.Reads as reads
-use Rattle.track.proofs.place_points.Lts as lts
-use Rattle.octets.proofs.put32.Reads as put32-reads
-use Rattle.track.proofs.end_of.Reads as end-of-reads
-use Rattle.track.proofs.place_point.Reads as place-point-reads
 
 abbrev Inv-loop : tie.InvT-loop
 Inv-loop store₀ points e₀ total₀ k₀ store e total k = Placing store₀ store e total points k

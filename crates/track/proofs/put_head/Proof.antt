@@ -2,11 +2,6 @@ use Rattle.track.specs.Append.{made}
 use borrow.Author.Needs.{needs}
 use Rattle.track.proofs.put_head.Statement.{statement}
 use Rattle.track.proofs.put_head.Tie as tie
-use Rattle.track.proofs.put_head.Reads as reads
-use Rattle.track.proofs.put_head.Lts as lts
-use Rattle.octets.proofs.clear.Reads as clear-reads
-use Rattle.octets.proofs.put8.Reads as put8-reads
-use Rattle.octets.proofs.put_all.Reads as put-all-reads
 
 clear-requires : tie.Need-clear-requires
 clear-requires c κs = search needs

@@ -5,10 +5,6 @@ use Rattle.track.proofs.Answers.{room-less, room-below, room-in-last, r
 use borrow.Author.Needs.{needs}
 use Rattle.track.proofs.room_for.Statement.{statement}
 use Rattle.track.proofs.room_for.Tie as tie
-use Rattle.track.proofs.room_for.Reads as reads
-use Rattle.track.proofs.room_for.Lts as lts
-use Rattle.track.proofs.has_room.Reads as has-room-reads
-use Rattle.track.proofs.held_in.Reads as held-in-reads
 
 add-fresh : tie.Need-add-fresh
 add-fresh c = search needs
