@@ -115,7 +115,7 @@ pub fn clear(s: &mut [u8])
     }
 }
 
-pub fn lesser(a: usize, b: usize) -> usize
+fn lesser(a: usize, b: usize) -> usize
     ensures { λ r. ⌜ r ≡ min a b ⌝ }
 {
     if a < b { a } else { b }

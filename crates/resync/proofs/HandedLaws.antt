@@ -4,7 +4,6 @@ use mathlib.Core.Path.{_≡_, refl, sym, _∙_, ap, ap₂, subst, subst₂}
 use mathlib.Core.List.{List, [], _∷_, _++_, map, map-append, append-assoc}
 use mathlib.Core.Logic.{⊎-elim}
 use native.Mathlib.Omega.{arith}
-use borrow.Author.Tests.{eq-eqb}
 use lib.Dec.{leb, leb→le}
 use lib.IntN.{ℤ, pos}
 use lib.ListN.{length, getD, take, drop, length-map, length-append}
@@ -24,7 +23,7 @@ use Rattle.store.specs.Layout as Stored
 use Rattle.octets.proofs.Sets.{getD-sets-in}
 use Rattle.store.specs.Store.{events, refusal}
 use Rattle.store.specs.Reads.{numbers, readNumber, readCount, readResult}
-use Rattle.track.specs.Calls.{after, accepted}
+use Rattle.track.specs.Calls.{after, taken}
 use Rattle.track.proofs.CallLaws.{Run, calls-law}
 use Rattle.resync.specs.Assured.{assuredPoint, dataFrom}
 use Rattle.resync.specs.DataPoints.{Consecutive, received, appended, eventIn, eventsIn, ReadBack, Handed, givenFrom}
@@ -96,7 +95,7 @@ handed-as-written ds es = ⊎-elim (λ e. e) back
   where
     back : ReadBack ds es → es ≡ received ds
     back r =
-        let run : Run (r .store) (after (r .store) (r .appends)) (accepted (r .store) (r .appends)) = calls-law (r .store) (r .appends) (r .store-accepted) in
+        let run : Run (r .store) (after (r .store) (r .appends)) (taken (r .store) (r .appends)) = calls-law (r .store) (r .appends) (r .store-accepted) in
         let s : List ℕ = after (r .store) (r .appends) in
         let front : List Stored.Event = events (r .store) ++ r .earlier in
         let all : events s ≡ front ++ (appended ds ++ r .later) =

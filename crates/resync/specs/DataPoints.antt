@@ -15,7 +15,7 @@ use Rattle.sender.specs.Calls.{Send, DataPoint, dataPoints}
 use Rattle.store.specs.Layout as Stored
 use Rattle.store.specs.Store.{events, refusal}
 use Rattle.store.specs.Reads.{readNumber, readCount, readResult}
-use Rattle.track.specs.Calls.{after, accepted}
+use Rattle.track.specs.Calls.{after, taken}
 
 -- "Consecutive ones follow one another in one sender's list, across its calls." The list starts from any state; from one that numbers
 -- 1, 2 and 4 do not let pass no call is accepted, and there are no data points.
@@ -51,7 +51,7 @@ pub record ReadBack (ds : List DataPoint) (es : List Event) : Type 0 where
   pub appends : List Stored.Event
   pub earlier : List Stored.Event
   pub later : List Stored.Event
-  pub in-order : accepted store appends ≡ earlier ++ (appended ds ++ later)
+  pub in-order : taken store appends ≡ earlier ++ (appended ds ++ later)
   pub lent : List ℤ
   pub offset : ℕ
   pub read-accepted : readNumber (after store appends) (length lent) offset ≡ 0

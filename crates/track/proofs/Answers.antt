@@ -3,7 +3,7 @@ use mathlib.Core.Path.{_≡_, refl, sym, ap, _∙_, subst}
 use mathlib.Core.Bool.{Bool, true, false, not, _&&_, _||_, cond, false≢true}
 use Prim.Native.Nat.{ℕ, zero, suc, _+_, _*_, _-_, _≤_, _<_}
 use native.Mathlib.Omega.{arith}
-use borrow.Author.Tests.{eqb-true, eqb-false, eq-eqb, ne-eqb, leb-true, le-leb, lt-ltb, le-ltb, ltb-true, not-true}
+use borrow.Author.Tests.{eqb-true, eqb-false, leb-true, le-leb, lt-leb, ltb-true, not-true}
 use mathlib.Core.List.{List, [], _∷_}
 use lib.Dec.{eqb, leb, ltb}
 use lib.ListN.{length}
@@ -23,9 +23,9 @@ use Rattle.store.specs.Walk.{Tells, Viewed}
 use Rattle.store.specs.declared.Inspected.{Inspected}
 use Rattle.store.specs.declared.Inspected.the-variants.{Refused}
 use Rattle.store.proofs.Views.{told-refused}
-use Rattle.track.specs.Seen.{spaces, pointSeen}
+use Rattle.track.specs.Points.{spaces}
 use Rattle.octets.proofs.Tests.{by-test, and-split, left-done, left-kept}
-use Rattle.line.proofs.RefusalLaws.{need-zero, or-some, or-zero, or-same}
+use Rattle.line.proofs.RefusalLaws.{need-zero, or-some, or-zero}
 use Rattle.store.proofs.Sounds.{Sound, accepted-sound, sound-last, sound-greatest}
 
 -- ---- making
@@ -120,26 +120,18 @@ unfolding spaces
 room-in-new s v w r = rw (← w .last, ← w .most, r) (omega arith)
 
 -- there is a space for a point exactly where number 17 does not apply
-spaces-some : (s : List ℕ) → refusal s ≡ 0 → ltb 0 (spaces s) ≡ (hasRoom s (lastIn s) || not (isFull s))
+pub spaces-some : (s : List ℕ) → refusal s ≡ 0 → leb 1 (spaces s) ≡ (hasRoom s (lastIn s) || not (isFull s))
 unfolding spaces
 spaces-some s acc =
     let g : greatest (chain s) < count s = sound-greatest s (accepted-sound s acc) in
     by-test (hasRoom s (lastIn s))
     (λ e. let h : held (rec s (lastIn s)) < 7 = room-less s (lastIn s) e in
-    rw e (lt-ltb 0 (7 - held (rec s (lastIn s)) + 7 * (count s - newIndex (chain s))) (omega arith)))
+    rw e (le-leb 1 (7 - held (rec s (lastIn s)) + 7 * (count s - newIndex (chain s))) (omega arith)))
     (λ e. rw e (by-test (isFull s)
     (λ f. let q : newIndex (chain s) ≡ count s = eqb-true (newIndex (chain s)) (count s) f in
-    rw f (le-ltb 0 (0 + 7 * (count s - newIndex (chain s))) (omega arith)))
+    rw f (lt-leb 1 (0 + 7 * (count s - newIndex (chain s))) (omega arith)))
     (λ f. let q = eqb-false (newIndex (chain s)) (count s) f in
-    rw f (lt-ltb 0 (0 + 7 * (count s - newIndex (chain s))) (omega (arith, q))))))
-
-pub point-seen : (s : List ℕ) (number t room : ℕ) (p : Point) → number ≡ refusal s → (number ≡ 0 → t ≡ total s) → (number ≡ 0 → room ≡ spaces s)
-    → pointSeen number t room p ≡ pointNumber s p
-unfolding pointSeen pointNumber
-point-seen s number t room p w f g =
-    let mine : ℕ = need (leb (t + 1) mostIntervals) 16 (need (ltb 0 room) 17 0) in
-    let rest : ℕ = need (leb (total s + 1) mostIntervals) 16 (need (hasRoom s (lastIn s) || not (isFull s)) 17 0) in
-    ap (need (inRange p) 8) (or-same number mine rest (λ z. cc (f z, g z, spaces-some s (sym w ∙ z))) ∙ ap (λ (x : ℕ). orNext x rest) w)
+    rw f (le-leb 1 (0 + 7 * (count s - newIndex (chain s))) (omega (arith, q))))))
 
 pub record PointFree (s : List ℕ) (p : Point) : Type 0 where
   pub accepted : refusal s ≡ 0
@@ -157,6 +149,11 @@ point-free s p e =
     let c = need-zero (leb (total s + 1) mostIntervals) 16 last (omega arith) (b .1) in
     let d = need-zero (hasRoom s (lastIn s) || not (isFull s)) 17 0 (omega arith) (c .1) in
     record { accepted = b .0; range = a .0; fits = leb-true (total s + 1) 4294967295 (c .0); room = λ r. not-full s (b .0) (rw r at (d .0)) }
+
+-- a point that nothing refuses
+pub free-point : (s : List ℕ) (p : Point) → refusal s ≡ 0 → inRange p ≡ true → total s + 1 ≤ 4294967295 → 1 ≤ spaces s → pointNumber s p ≡ 0
+unfolding pointNumber
+free-point s p acc r f h = rw (r, acc, le-leb (total s + 1) 4294967295 f, sym (spaces-some s acc) ∙ le-leb 1 (spaces s) h)
 
 pub point-done : (s : List ℕ) (p : Point) → pointNumber s p ≡ 0 → pointAppended s p ≡ pointResult s p
 unfolding pointResult

@@ -1,20 +1,15 @@
 -- Lists of appends to an accepted store: reading gives the events held at the start and those of the accepted appends. Assumes nothing.
 use mathlib.Core.Path.{_≡_, refl, sym, ap, _∙_, subst}
-use mathlib.Core.Bool.{Bool, true, false, cond}
-use mathlib.Core.List.{List, [], _∷_, _++_, map, append-assoc, append-nil}
+use mathlib.Core.List.{List, [], _∷_, _++_, append-assoc, append-nil}
 use Prim.Native.Nat.{ℕ, _+_}
 use native.Mathlib.Omega.{arith}
 use borrow.Author.Tests.{eqb-true, eqb-false}
 use lib.Dec.{eqb}
 use lib.ListN.{length}
-use Rattle.octets.proofs.Tests.{by-test}
+use Rattle.octets.proofs.Tests.{by-test, left-kept}
 use Rattle.store.specs.Layout.{Event, point, lost}
 use Rattle.store.specs.Store.{events, total, refusal}
-use Rattle.track.specs.Append.{pointResult, pointNumber, lostResult, lostNumber}
-use Rattle.line.specs.declared.Point.{Point}
-use Rattle.line.proofs.RefusalLaws.{or-zero}
-use Rattle.track.specs.Points.{eachNumber, eachResult}
-use Rattle.track.specs.Calls.{callNumber, callResult, intervals, after, accepted}
+use Rattle.track.specs.Calls.{callNumber, callResult, intervals, after, taken}
 use Rattle.track.proofs.Appends.{Appended, lost-law}
 use Rattle.track.proofs.Answers.{lost-free, lost-done, lost-kept, point-done, point-kept}
 use Rattle.track.proofs.Places.{point-appended}
@@ -37,28 +32,17 @@ pub record Run (s s′ : List ℕ) (es : List Event) : Type 0 where
   pub events-are : events s′ ≡ events s ++ es
   pub long : length s′ ≡ length s
 
-pub calls-law : (s : List ℕ) (es : List Event) → refusal s ≡ 0 → Run s (after s es) (accepted s es)
+pub calls-law : (s : List ℕ) (es : List Event) → refusal s ≡ 0 → Run s (after s es) (taken s es)
 calls-law s [] acc = record { accepted-yet = acc; events-are = sym (append-nil (events s)); long = refl }
 calls-law s (e ∷ es) acc =
     by-test (eqb (callNumber s e) 0)
-    (λ t. let d = append-law s e (eqb-true (callNumber s e) 0 t) in
+    (λ t. let z = eqb-true (callNumber s e) 0 t in
+    let d = append-law s e z in
     let r = calls-law (callResult s e) es (d .accepted) in
-    rw t (record {
+    rw z (record {
       accepted-yet = r .accepted-yet;
-      events-are = r .events-are ∙ ap (λ (x : List Event). x ++ accepted (callResult s e) es) (d .events-are) ∙ append-assoc (events s) (e ∷ []) (accepted (callResult s e) es);
+      events-are = r .events-are ∙ ap (λ (x : List Event). x ++ taken (callResult s e) es) (d .events-are) ∙ append-assoc (events s) (e ∷ []) (taken (callResult s e) es);
       long = r .long ∙ d .long;
     }))
-    (λ t. rw (t, refused-law s e (eqb-false (callNumber s e) 0 t)) (calls-law s es acc))
-
--- many points by one call: their events, in order
-pub points-law : (s : List ℕ) (ps : List Point) → refusal s ≡ 0 → eachNumber s ps ≡ 0 → Run s (eachResult s ps) (map point ps)
-points-law s [] acc e = record { accepted-yet = acc; events-are = sym (append-nil (events s)); long = refl }
-points-law s (p ∷ ps) acc e =
-    let z = or-zero (pointNumber s p) (eachNumber (pointResult s p) ps) e in
-    let d = append-law s (point p) (z .0) in
-    let r = points-law (pointResult s p) ps (d .accepted) (z .1) in
-    record {
-      accepted-yet = r .accepted-yet;
-      events-are = r .events-are ∙ ap (λ (x : List Event). x ++ map point ps) (d .events-are) ∙ append-assoc (events s) (point p ∷ []) (map point ps);
-      long = r .long ∙ d .long;
-    }
+    (λ t. let h = eqb-false (callNumber s e) 0 t in
+    rw (← left-kept (callNumber s e) (e ∷ taken (callResult s e) es) (taken (callResult s e) es) h, refused-law s e h) (calls-law s es acc))

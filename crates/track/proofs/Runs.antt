@@ -1,159 +1,109 @@
--- Points appended one after the other. Assumes nothing.
-use mathlib.Core.Path.{_≡_, refl, sym, ap, ap₂, _∙_, subst}
-use mathlib.Core.Bool.{Bool, true, false, _&&_, and-assoc}
-use mathlib.Core.List.{List, [], _∷_}
-use Prim.Native.Nat.{ℕ, zero, suc, _+_, _-_, _*_, _/_, _%_, _≤_, _<_, min}
-use native.Mathlib.Nat.{add-zero, sub-zero, min-le-left, min-le-right}
+-- Many points appended by one call: when none is refused, and the loop that writes them. Assumes nothing.
+use mathlib.Core.Path.{_≡_, refl, sym, ap, _∙_, subst}
+use mathlib.Core.Bool.{Bool, true, false, not, _&&_, _||_, and-assoc, and-true}
+use mathlib.Core.List.{List, [], _∷_, map}
+use Prim.Native.Nat.{ℕ, zero, suc, _+_, _/_, _%_, _≤_, _<_}
 use native.Mathlib.Omega.{arith}
-use borrow.Author.Tests.{eq-eqb, ne-eqb, leb-true, ltb-true, le-leb, lt-ltb}
-use lib.Dec.{eqb, leb, ltb}
+use borrow.Author.Tests.{eq-eqb, ne-eqb, eqb-true, leb-true, le-leb}
+use lib.Dec.{eqb, leb}
 use lib.IntN.{ℤ, pos}
-use lib.ListN.{length, getD, take, drop, length-drop}
-use lib.Seq.{sets, length-sets, take-all}
+use lib.ListN.{length, getD, drop}
+use lib.Seq.{sets, length-sets}
 use Rattle.line.specs.declared.Point.{Point}
 use Rattle.line.specs.Point.{at, pairs, coordinateIn, inRange, coordinatesIn}
+use Rattle.line.specs.Refusal.{need, orNext, accepted}
+use Rattle.line.specs.Table.{every}
 use Rattle.line.proofs.PointLaws.{pairs-step, pairs-end, pairs-length}
-use Rattle.octets.proofs.Tests.{by-test, left-kept}
+use Rattle.line.proofs.RefusalLaws.{need-zero, or-some, or-zero, or-same}
+use Rattle.octets.proofs.Tests.{and-split, and-join, left-done, left-kept}
 use Rattle.octets.specs.Number.{le32}
 use Rattle.store.specs.declared.View.{View}
-use Rattle.track.specs.declared.End.{End}
-use Rattle.line.specs.Refusal.{need, orNext, accepted}
-use Rattle.store.specs.Store.{total, refusal}
-use Rattle.store.specs.Walk.{Tells, Viewed}
 use Rattle.store.specs.declared.Inspected.{Inspected}
 use Rattle.store.specs.declared.Inspected.the-variants.{Refused}
-use Rattle.store.proofs.Views.{told-refused}
-use Rattle.line.proofs.RefusalLaws.{need-zero, or-some, or-zero, or-same}
+use Rattle.store.specs.Layout.{Event, point, count}
+use Rattle.store.specs.Store.{lastIn, total, refusal}
+use Rattle.store.specs.Walk.{Tells, Viewed}
 use Rattle.store.proofs.Sounds.{accepted-sound, sound-last}
-use Rattle.track.specs.Append.{mostIntervals, pointAppended, pointNumber, pointResult}
-use Rattle.track.specs.Points.{eachNumber, eachResult, pointsNumber, pointsResult}
-use Rattle.track.specs.Seen.{spaces, pointSeen, seenNumber, fit, firstIn, Ends, Reach, placed, nextEnd}
-use Rattle.track.proofs.Answers.{point-seen, point-free, point-done}
+use Rattle.store.proofs.Views.{told-refused}
+use Rattle.track.specs.declared.End.{End}
+use Rattle.track.specs.Append.{mostIntervals, isFull, hasRoom, pointAppended, pointNumber, pointResult}
+use Rattle.track.specs.Calls.{after, taken, NoneRefused}
+use Rattle.track.specs.Points.{pointEvents, spaces, pointsNumber, pointsResult, JustWhen, AllTaken}
+use Rattle.track.specs.Seen.{Ends, Reach, placed, nextEnd}
+use Rattle.track.proofs.Answers.{point-free, free-point, spaces-some, point-done}
 use Rattle.track.proofs.Places.{point-appended, spaces-less, Apart, apart-placed, total-over, placed-total, ends-next, last-positive, new-room}
 
--- ---- the points of a list of numbers
-two-more : (n : ℕ) → 2 * suc n ≡ suc (suc (2 * n))
-two-more n = omega arith
-
-pairs-drop : (n : ℕ) (zs : List ℤ) → pairs (drop (2 * n) zs) ≡ drop n (pairs zs)
-pairs-drop zero zs = refl
-pairs-drop (suc n) [] = ap (λ (m : ℕ). pairs (drop m [])) (two-more n)
-pairs-drop (suc n) (z ∷ []) = ap (λ (m : ℕ). pairs (drop m (z ∷ []))) (two-more n)
-pairs-drop (suc n) (z ∷ y ∷ zs) = ap (λ (m : ℕ). pairs (drop m (z ∷ y ∷ zs))) (two-more n) ∙ pairs-drop n zs
-
--- ---- the first number, without writing
-pub seen-stop : (number t room n : ℕ) (p : Point) (ps : List Point) → n ≡ pointSeen number t room p → (n ≡ 0 → ⊥) → n ≡ seenNumber number t room (p ∷ ps)
-unfolding seenNumber
-seen-stop number t room n p ps e h =
-    or-some n (seenNumber number (t + 1) (room - 1) ps) h ∙ ap (λ (x : ℕ). orNext x (seenNumber number (t + 1) (room - 1) ps)) e
-
-pub seen-step : (number t room n : ℕ) (p : Point) (ps : List Point) → n ≡ pointSeen number t room p → n ≡ 0
-    → seenNumber number t room (p ∷ ps) ≡ seenNumber number (t + 1) (room - 1) ps
-unfolding seenNumber
-seen-step number t room n p ps e z = ap (λ (x : ℕ). orNext x (seenNumber number (t + 1) (room - 1) ps)) (sym e ∙ z)
-
-pub seen-free : (number t room n : ℕ) (p : Point) → n ≡ pointSeen number t room p → n ≡ 0 → (t + 1 ≤ 4294967295) × (0 < room)
-unfolding pointSeen
-seen-free number t room n p e z =
-    let last : ℕ = need (ltb 0 room) 17 0 in
-    let rest : ℕ = need (leb (t + 1) mostIntervals) 16 last in
-    let a = need-zero (inRange p) 8 (orNext number rest) (omega arith) (sym e ∙ z) in
-    let b = or-zero number rest (a .1) in
-    let c = need-zero (leb (t + 1) mostIntervals) 16 last (omega arith) (b .1) in
-    let d = need-zero (ltb 0 room) 17 0 (omega arith) (c .1) in
-    (leb-true (t + 1) 4294967295 (c .0), ltb-true 0 room (d .0))
-
--- the points that fit at once: number 8, or what is left
-pub fit-facts : (number t room n : ℕ) → t ≤ 4294967295 → (fit number t room n ≤ n) × (fit number t room n ≤ room) × (t + fit number t room n ≤ 4294967295)
-unfolding fit
-fit-facts zero t room n h =
-    let m : ℕ = min room (4294967295 - t) in
-    let a : min n m ≤ n = min-le-left n m in
-    let b : min n m ≤ m = min-le-right n m in
-    let c : m ≤ room = min-le-left room (4294967295 - t) in
-    let d : m ≤ 4294967295 - t = min-le-right room (4294967295 - t) in
-    (a, omega arith, omega arith)
-fit-facts (suc number) t room n h = (omega arith, omega arith, omega arith)
-
-pub fit-zero : (number t room n : ℕ) → number ≡ 0 → min n (min room (4294967295 - t)) ≡ fit number t room n
-unfolding fit
-fit-zero zero t room n e = refl
-fit-zero (suc number) t room n e = absurd (omega arith)
-
-pub fit-some : (number t room n : ℕ) → (number ≡ 0 → ⊥) → 0 ≡ fit number t room n
-unfolding fit
-fit-some zero t room n h = absurd (h refl)
-fit-some (suc number) t room n h = refl
-
--- the first n points are in range when each of their coordinates is
-pub first-in : (n : ℕ) (zs : List ℤ) → 2 * n ≤ length zs → coordinatesIn (take (2 * n) zs) ≡ firstIn n (pairs zs)
+-- ---- when none is refused
+-- the points are in range when each of their coordinates is
+pub all-in : (zs : List ℤ) → length zs % 2 ≡ 0 → coordinatesIn zs ≡ every inRange (pairs zs)
 unfolding inRange
-first-in zero zs h = refl
-first-in (suc n) [] h = absurd (omega arith)
-first-in (suc n) (x ∷ []) h = absurd (omega arith)
-first-in (suc n) (x ∷ y ∷ zs) h =
-    ap (λ (m : ℕ). coordinatesIn (take m (x ∷ y ∷ zs))) (let e : 2 * suc n ≡ suc (suc (2 * n)) = omega arith in e)
-    ∙ sym (and-assoc (coordinateIn x) (coordinateIn y) (coordinatesIn (take (2 * n) zs)))
-    ∙ ap (λ (b : Bool). (coordinateIn x && coordinateIn y) && b) (first-in n zs (omega arith))
+all-in [] h = refl
+all-in (x ∷ []) h = absurd (omega arith)
+all-in (x ∷ y ∷ zs) h =
+    sym (and-assoc (coordinateIn x) (coordinateIn y) (coordinatesIn zs)) ∙ ap (λ (b : Bool). (coordinateIn x && coordinateIn y) && b) (all-in zs (omega arith))
 
-seen-in : (t room : ℕ) (p : Point) → t + 1 ≤ 4294967295 → 0 < room → pointSeen 0 t room p ≡ need (inRange p) 8 0
-unfolding pointSeen
-seen-in t room p h k = rw (le-leb (t + 1) 4294967295 h, lt-ltb 0 room k)
+-- what the whole call asks of points and store
+pub record Fits (s : List ℕ) (ps : List Point) : Type 0 where
+  pub range : every inRange ps ≡ true
+  pub fits : total s + length ps ≤ 4294967295
+  pub room : length ps ≤ spaces s
 
-need-both : (a b : Bool) (x : ℕ) → orNext (need a 8 0) (need b 8 x) ≡ need (a && b) 8 x
-need-both true b x = refl
-need-both false b x = refl
+pub none-refused : (s : List ℕ) (ps : List Point) → refusal s ≡ 0 → Fits s ps → NoneRefused s (map point ps)
+none-refused s [] acc f = tt
+none-refused s (p ∷ ps) acc f =
+    let r = and-split (inRange p) (every inRange ps) (f .range) in
+    let z : pointNumber s p ≡ 0 = free-point s p acc (r .0) (omega (arith, f .fits)) (omega (arith, f .room)) in
+    let a = point-appended s p z in (
+      z,
+      subst (λ (u : List ℕ). NoneRefused u (map point ps)) (point-done s p z)
+          (none-refused (pointAppended s p) ps (a .accepted)
+          (record { range = r .1; fits = omega (arith, a .total-is, f .fits); room = omega (arith, spaces-less s p z, f .room) })),
+    )
 
-seen-run : (m t room : ℕ) (ps : List Point) → m ≤ length ps → m ≤ room → t + m ≤ 4294967295
-    → seenNumber 0 t room ps ≡ need (firstIn m ps) 8 (seenNumber 0 (t + m) (room - m) (drop m ps))
-unfolding seenNumber
-seen-run zero t room ps a b c = rw (add-zero t, sub-zero room)
-seen-run (suc m) t room [] a b c = absurd (omega arith)
-seen-run (suc m) t room (p ∷ ps) a b c =
-    ap₂ orNext (seen-in t room p (omega arith) (omega arith)) (seen-run m (t + 1) (room - 1) ps (omega arith) (omega arith) (omega arith))
-    ∙ need-both (inRange p) (firstIn m ps) (seenNumber 0 (t + 1 + m) (room - 1 - m) (drop m ps))
-    ∙ ap₂ (λ (x y : ℕ). need (inRange p && firstIn m ps) 8 (seenNumber 0 x y (drop m ps))) (let e : t + 1 + m ≡ t + suc m = omega arith in e) (let e : room - 1 - m ≡ room - suc m = omega arith in e)
+fits-none : (s : List ℕ) (ps : List Point) → total s ≤ 4294967295 → NoneRefused s (map point ps) → Fits s ps
+fits-none s [] h n = record { range = refl; fits = omega arith; room = omega arith }
+fits-none s (p ∷ ps) h n =
+    let z : pointNumber s p ≡ 0 = n .0 in
+    let a = point-appended s p z in
+    let q = point-free s p z in
+    let t : total (pointAppended s p) ≤ 4294967295 = omega (arith, a .total-is, q .fits) in
+    let f : Fits (pointAppended s p) ps = fits-none (pointAppended s p) ps t (subst (λ (u : List ℕ). NoneRefused u (map point ps)) (sym (point-done s p z)) (n .1)) in
+    record {
+      range = and-join (inRange p) (every inRange ps) (q .range) (f .range);
+      fits = omega (arith, a .total-is, f .fits);
+      room = omega (arith, spaces-less s p z, f .room);
+    }
 
-seen-fit : (number t room n : ℕ) (ps : List Point) → t ≤ 4294967295 → n ≤ length ps
-    → seenNumber number t room ps
-    ≡ need (firstIn (fit number t room n) ps) 8 (seenNumber number (t + fit number t room n) (room - fit number t room n) (drop (fit number t room n) ps))
-seen-fit zero t room n ps h l =
-    let f = fit-facts 0 t room n h in
-    seen-run (fit 0 t room n) t room ps (omega (arith, f .0)) (f .1) (f .2)
-seen-fit (suc number) t room n ps h l = unfold fit in (rw (add-zero t, sub-zero room))
+-- the number by the needs, and the needs by the number
+number-fits : (s : List ℕ) (zs : List ℤ) → pointsNumber s zs ≡ 0 → (length zs % 2 ≡ 0) × (refusal s ≡ 0) × Fits s (pairs zs)
+unfolding pointsNumber
+number-fits s zs e =
+    let last : ℕ = need (leb (length (pairs zs)) (spaces s)) 17 0 in
+    let rest : ℕ = need (leb (total s + length (pairs zs)) mostIntervals) 16 last in
+    let a = need-zero (eqb (length zs % 2) 0) 7 (need (every inRange (pairs zs)) 8 (orNext (refusal s) rest)) (omega arith) e in
+    let b = need-zero (every inRange (pairs zs)) 8 (orNext (refusal s) rest) (omega arith) (a .1) in
+    let c = or-zero (refusal s) rest (b .1) in
+    let d = need-zero (leb (total s + length (pairs zs)) mostIntervals) 16 last (omega arith) (c .1) in
+    let f = need-zero (leb (length (pairs zs)) (spaces s)) 17 0 (omega arith) (d .1) in
+    (eqb-true (length zs % 2) 0 (a .0), c .0, record { range = b .0; fits = leb-true (total s + length (pairs zs)) 4294967295 (d .0); room = leb-true (length (pairs zs)) (spaces s) (f .0) })
 
--- and of the numbers
-seen-numbers : (number t room n : ℕ) (zs : List ℤ) → t ≤ 4294967295 → n ≡ fit number t room (length zs / 2)
-    → seenNumber number t room (pairs zs) ≡ need (firstIn n (pairs zs)) 8 (seenNumber number (t + n) (room - n) (pairs (drop (2 * n) zs)))
-seen-numbers number t room n zs h e =
-    rw (e, pairs-drop) (seen-fit number t room (length zs / 2) (pairs zs) h (let e : length zs / 2 ≤ length (pairs zs) = omega (arith, pairs-length zs) in e))
+fits-number : (s : List ℕ) (zs : List ℤ) → length zs % 2 ≡ 0 → refusal s ≡ 0 → Fits s (pairs zs) → pointsNumber s zs ≡ 0
+unfolding pointsNumber
+fits-number s zs h acc f =
+    rw (eq-eqb (length zs % 2) 0 h, f .range, acc, le-leb (total s + length (pairs zs)) 4294967295 (f .fits), le-leb (length (pairs zs)) (spaces s) (f .room))
 
-pub seen-fitted : (number t room n x : ℕ) (zs : List ℤ) → t ≤ 4294967295 → n ≡ fit number t room (length zs / 2) → firstIn n (pairs zs) ≡ true
-    → x ≡ seenNumber number (t + n) (room - n) (pairs (take (length zs - 2 * n) (drop (2 * n) zs))) → x ≡ seenNumber number t room (pairs zs)
-seen-fitted number t room n x zs h e f g =
-    g ∙ ap (λ (l : List ℤ). seenNumber number (t + n) (room - n) (pairs l)) (take-all (length zs - 2 * n) (drop (2 * n) zs) (simp length-drop (omega arith)))
-    ∙ sym (seen-numbers number t room n zs h e ∙ ap (λ (b : Bool). need b 8 (seenNumber number (t + n) (room - n) (pairs (drop (2 * n) zs)))) f)
+pub just-when : JustWhen
+just-when s zs h = (
+  (λ e. let f = number-fits s zs e in (f .0, f .1, none-refused s (pairs zs) (f .1) (f .2))),
+  (λ w. fits-number s zs (w .0) (w .1) (fits-none s (pairs zs) h (w .2))),
+)
 
-pub seen-outside : (number t room n : ℕ) (zs : List ℤ) → t ≤ 4294967295 → n ≡ fit number t room (length zs / 2) → firstIn n (pairs zs) ≡ false
-    → 8 ≡ seenNumber number t room (pairs zs)
-seen-outside number t room n zs h e f =
-    sym (seen-numbers number t room n zs h e ∙ ap (λ (b : Bool). need b 8 (seenNumber number (t + n) (room - n) (pairs (drop (2 * n) zs)))) f)
+taken-all : (s : List ℕ) (es : List Event) → NoneRefused s es → taken s es ≡ es
+taken-all s [] n = refl
+taken-all s (e ∷ es) n = sym (left-done _ _ _ (n .0)) ∙ ap (λ (l : List Event). e ∷ l) (taken-all _ es (n .1))
 
--- it is the number of the appends one after the other
-each-seen : (s : List ℕ) (number t room : ℕ) (ps : List Point) → number ≡ refusal s → (number ≡ 0 → t ≡ total s) → (number ≡ 0 → room ≡ spaces s)
-    → seenNumber number t room ps ≡ eachNumber s ps
-unfolding seenNumber
-each-seen s number t room [] w f g = refl
-each-seen s number t room (p ∷ ps) w f g =
-    or-same (pointSeen number t room p) (seenNumber number (t + 1) (room - 1) ps) (eachNumber (pointResult s p) ps)
-    (λ z.
-    let e : pointNumber s p ≡ 0 = sym (point-seen s number t room p w f g) ∙ z in
-    let a = point-appended s p e in
-    let n : number ≡ 0 = w ∙ point-free s p e .accepted in
-    let l = spaces-less s p e in
-    subst (λ (u : List ℕ). seenNumber number (t + 1) (room - 1) ps ≡ eachNumber u ps) (point-done s p e)
-    (each-seen (pointAppended s p) number (t + 1) (room - 1) ps (n ∙ sym (a .accepted)) (λ q. omega (arith, a .total-is, f n)) (λ q. omega (arith, l, g n))))
-    ∙ ap (λ (x : ℕ). orNext x (eachNumber (pointResult s p) ps)) (point-seen s number t room p w f g)
+pub all-taken : AllTaken
+all-taken s zs e = let f = number-fits s zs e in taken-all s (pointEvents zs) (none-refused s (pairs zs) (f .1) (f .2))
 
 -- ---- writing
 -- after the numbers before place k the bytes are s, and with the total they are `full`: what is left to append to it is all
@@ -166,15 +116,15 @@ pub record Placing (s₀ s : List ℕ) (d : End) (t : ℕ) (zs : List ℤ) (k : 
   pub kept : 0 < k → sets full 8 (le32 t) ≡ full
   pub ends : Ends full t d
   pub fits : t < 4294967296
-  pub free : eachNumber full (pairs (drop k zs)) ≡ 0
-  pub left : eachResult full (pairs (drop k zs)) ≡ eachResult s₀ (pairs zs)
+  pub free : NoneRefused full (pointEvents (drop k zs))
+  pub left : after full (pointEvents (drop k zs)) ≡ after s₀ (pointEvents zs)
 
-first-free : (s : List ℕ) (zs : List ℤ) (k : ℕ) → k + 1 < length zs → eachNumber s (pairs (drop k zs)) ≡ 0
+first-free : (s : List ℕ) (zs : List ℤ) (k : ℕ) → k + 1 < length zs → NoneRefused s (pointEvents (drop k zs))
     → (pointNumber s (at (getD zs k (pos 0)) (getD zs (k + 1) (pos 0))) ≡ 0)
-    × (eachNumber (pointResult s (at (getD zs k (pos 0)) (getD zs (k + 1) (pos 0)))) (pairs (drop (k + 2) zs)) ≡ 0)
-first-free s zs k h e = or-zero _ _ (sym (ap (eachNumber s) (pairs-step zs k h)) ∙ e)
+    × NoneRefused (pointResult s (at (getD zs k (pos 0)) (getD zs (k + 1) (pos 0)))) (pointEvents (drop (k + 2) zs))
+first-free s zs k h n = subst (λ (ps : List Point). NoneRefused s (map point ps)) (pairs-step zs k h) n
 
-pub placing-start : (s : List ℕ) (v : View) (d : End) (zs : List ℤ) → Viewed s v → eachNumber s (pairs zs) ≡ 0 → 2 ≤ length zs
+pub placing-start : (s : List ℕ) (v : View) (d : End) (zs : List ℤ) → Viewed s v → NoneRefused s (pointEvents zs) → 2 ≤ length zs
     → Ends s (v .total) d → Placing s s d (v .total) zs 0
 placing-start s v d zs w e h g =
     record {
@@ -221,55 +171,61 @@ module _ (s₀ s : List ℕ) (d : End) (t : ℕ) (zs : List ℤ) (k : ℕ) (g : 
         kept = λ p. o .1;
         ends = subst (Ends u (t + 1)) (sym q) (ends-next (g .full) here here-free t d (g .ends));
         fits = omega (arith, point-free (g .full) here here-free .fits, g .ends .total-is);
-        free = ap (λ (x : List ℕ). eachNumber x (pairs (drop (k + 2) zs))) r ∙ first-free (g .full) zs k h (g .free) .1;
-        left = ap (λ (x : List ℕ). eachResult x (pairs (drop (k + 2) zs))) r ∙ sym (ap (eachResult (g .full)) (pairs-step zs k h)) ∙ g .left;
+        free = subst (λ (x : List ℕ). NoneRefused x (pointEvents (drop (k + 2) zs))) (sym r) (first-free (g .full) zs k h (g .free) .1);
+        left = ap (λ (x : List ℕ). after x (pointEvents (drop (k + 2) zs))) r ∙ sym (ap (λ (ps : List Point). after (g .full) (map point ps)) (pairs-step zs k h)) ∙ g .left;
       }
 
 pub placing-end : (s₀ s s′ : List ℕ) (d : End) (t : ℕ) (zs : List ℤ) (k : ℕ) → Placing s₀ s d t zs k → 2 ≤ length zs → length zs ≤ k + 1
-    → s′ ≡ sets s 8 (le32 t) → s′ ≡ eachResult s₀ (pairs zs)
+    → s′ ≡ sets s 8 (le32 t) → s′ ≡ after s₀ (pointEvents zs)
 placing-end s₀ s s′ d t zs k g two h e =
-    e ∙ g .like (le32 t) refl ∙ g .kept (omega arith) ∙ sym (ap (eachResult (g .full)) (pairs-end zs k h)) ∙ g .left
+    e ∙ g .like (le32 t) refl ∙ g .kept (omega arith) ∙ sym (ap (λ (ps : List Point). after (g .full) (map point ps)) (pairs-end zs k h)) ∙ g .left
 
-pub placing-none : (s : List ℕ) (zs : List ℤ) → length zs < 2 → s ≡ eachResult s (pairs zs)
-placing-none s zs h = sym (ap (eachResult s) (pairs-end zs 0 (omega arith)))
+pub placing-none : (s : List ℕ) (zs : List ℤ) → length zs < 2 → s ≡ after s (pointEvents zs)
+placing-none s zs h = sym (ap (λ (ps : List Point). after s (map point ps)) (pairs-end zs 0 (omega arith)))
 
 -- ---- the call
+pub points-kept : (s : List ℕ) (zs : List ℤ) (n : ℕ) → n ≡ pointsNumber s zs → (n ≡ 0 → ⊥) → (n ≡ pointsNumber s zs) × (s ≡ pointsResult s zs)
+unfolding pointsResult
+points-kept s zs n e h = (e, left-kept (pointsNumber s zs) (after s (pointEvents zs)) s (λ z. h (e ∙ z)))
+
 pub points-odd : (s : List ℕ) (zs : List ℤ) → (length zs % 2 ≡ 0 → ⊥) → (7 ≡ pointsNumber s zs) × (s ≡ pointsResult s zs)
-unfolding pointsNumber pointsResult
-points-odd s zs h = (rw (ne-eqb (length zs % 2) 0 h), rw (ne-eqb (length zs % 2) 0 h))
+points-odd s zs h = points-kept s zs 7 (unfold pointsNumber in rw (ne-eqb (length zs % 2) 0 h)) (λ z. omega arith)
 
-pub points-even : (s : List ℕ) (zs : List ℤ) (x : ℕ) → length zs % 2 ≡ 0 → x ≡ eachNumber s (pairs zs) → x ≡ pointsNumber s zs
-unfolding pointsNumber
-points-even s zs x h e = rw (eq-eqb (length zs % 2) 0 h) e
+module _ (s : List ℕ) (zs : List ℤ) (even : length zs % 2 ≡ 0) where
+  pub points-out : coordinatesIn zs ≡ false → (8 ≡ pointsNumber s zs) × (s ≡ pointsResult s zs)
+  points-out r =
+      points-kept s zs 8 (unfold pointsNumber in rw (eq-eqb (length zs % 2) 0 even, sym (all-in zs even) ∙ r)) (λ z. omega arith)
 
-pub points-each : (s : List ℕ) (zs : List ℤ) (v : View) (room x : ℕ) → Viewed s v → room ≡ spaces s
-    → x ≡ seenNumber 0 (v .total) room (pairs zs) → x ≡ eachNumber s (pairs zs)
-points-each s zs v room x w r e = e ∙ each-seen s 0 (v .total) room (pairs zs) (sym (w .accepted)) (λ z. w .total-is) (λ z. r)
+  pub points-refused : (n : ℕ) (i : Inspected) → coordinatesIn zs ≡ true → Tells s i → i ≡ Refused n → (n ≡ pointsNumber s zs) × (s ≡ pointsResult s zs)
+  unfolding pointsNumber
+  points-refused n i r w q =
+      let t = told-refused s i n w q in
+      let rest : ℕ = need (leb (total s + length (pairs zs)) mostIntervals) 16 (need (leb (length (pairs zs)) (spaces s)) 17 0) in
+      points-kept s zs n (rw (eq-eqb (length zs % 2) 0 even, sym (all-in zs even) ∙ r) (or-some n rest (t .1) ∙ ap (λ (y : ℕ). orNext y rest) (t .0))) (t .1)
 
-no-points : (s : List ℕ) (ps : List Point) → (refusal s ≡ 0 → ⊥) → accepted (eachNumber s ps) (eachResult s ps) s ≡ s
-no-points s [] h = refl
-no-points s (p ∷ ps) h =
-    sym (left-kept (eachNumber s (p ∷ ps)) (eachResult s (p ∷ ps)) s (λ z. h (point-free s p (or-zero (pointNumber s p) (eachNumber (pointResult s p) ps) z .0) .accepted)))
+  -- of an accepted store
+  pub points-seen : (v : View) (room n : ℕ) → Viewed s v → coordinatesIn zs ≡ true → room ≡ spaces s
+      → n ≡ need (leb (v .total + length zs / 2) mostIntervals) 16 (need (leb (length zs / 2) room) 17 0) → n ≡ pointsNumber s zs
+  unfolding pointsNumber
+  points-seen v room n w r m e =
+      let l : length (pairs zs) ≡ length zs / 2 = omega (arith, pairs-length zs, even) in
+      rw (eq-eqb (length zs % 2) 0 even, sym (all-in zs even) ∙ r, w .accepted, ← w .total-is, ← m, l) e
 
-pub points-refused : (s : List ℕ) (zs : List ℤ) (n x : ℕ) (i : Inspected) → length zs % 2 ≡ 0 → Tells s i → i ≡ Refused n
-    → x ≡ seenNumber n 0 0 (pairs zs) → (x ≡ pointsNumber s zs) × (s ≡ pointsResult s zs)
-points-refused s zs n x i h w q e =
-    let t = told-refused s i n w q in
-    let y : x ≡ eachNumber s (pairs zs) = e ∙ each-seen s n 0 0 (pairs zs) (t .0) (λ z. absurd (t .1 z)) (λ z. absurd (t .1 z)) in
-    (points-even s zs x h y, unfold pointsResult in (unfold pointsNumber in (rw (eq-eqb (length zs % 2) 0 h) (sym (no-points s (pairs zs) (λ z. t .1 (t .0 ∙ z)))))))
+pub points-free : (s : List ℕ) (zs : List ℤ) → pointsNumber s zs ≡ 0 → NoneRefused s (pointEvents zs)
+points-free s zs e = let f = number-fits s zs e in none-refused s (pairs zs) (f .1) (f .2)
 
-pub points-viewed : (s s′ : List ℕ) (zs : List ℤ) (x : ℕ) → length zs % 2 ≡ 0 → x ≡ eachNumber s (pairs zs)
-    → s′ ≡ accepted x (eachResult s (pairs zs)) s → (x ≡ pointsNumber s zs) × (s′ ≡ pointsResult s zs)
-points-viewed s s′ zs x h e q = let n = points-even s zs x h e in (n, unfold pointsResult in (q ∙ ap (λ (m : ℕ). accepted m (eachResult s (pairs zs)) s) n))
+pub points-done : (s s′ : List ℕ) (zs : List ℤ) → pointsNumber s zs ≡ 0 → s′ ≡ after s (pointEvents zs) → s′ ≡ pointsResult s zs
+unfolding pointsResult
+points-done s s′ zs e q = q ∙ left-done (pointsNumber s zs) (after s (pointEvents zs)) s e
 
 -- ---- one point
-or-none : (a : ℕ) → orNext a 0 ≡ a
-or-none zero = refl
-or-none (suc a) = refl
-
 pub one-number : (s : List ℕ) (x y : ℤ) → pointsNumber s (x ∷ y ∷ []) ≡ pointNumber s (at x y)
-unfolding pointsNumber
-one-number s x y = or-none (pointNumber s (at x y))
+unfolding pointsNumber pointNumber
+one-number s x y =
+    let many : ℕ = need (leb (total s + 1) mostIntervals) 16 (need (leb 1 (spaces s)) 17 0) in
+    let one : ℕ = need (leb (total s + 1) mostIntervals) 16 (need (hasRoom s (lastIn s) || not (isFull s)) 17 0) in
+    ap (λ (b : Bool). need b 8 (orNext (refusal s) many)) (and-true (inRange (at x y)))
+    ∙ ap (need (inRange (at x y)) 8) (or-same (refusal s) many one (λ z. ap (λ (b : Bool). need (leb (total s + 1) mostIntervals) 16 (need b 17 0)) (spaces-some s z)))
 
 pub one-result : (s : List ℕ) (x y : ℤ) → pointsResult s (x ∷ y ∷ []) ≡ pointResult s (at x y)
 unfolding pointsResult pointResult

@@ -1,8 +1,8 @@
 -- Document 01, "Lists of calls": a store's list has appends, of points and lost counts; refused calls belong to it.
-use mathlib.Core.Bool.{cond}
+use mathlib.Core.Path.{_≡_}
 use mathlib.Core.List.{List, [], _∷_}
 use Prim.Native.Nat.{ℕ}
-use lib.Dec.{eqb}
+use Rattle.line.specs.Refusal.{accepted}
 use Rattle.store.specs.Layout.{Event, point, lost}
 use Rattle.track.specs.Append.{pointNumber, pointResult, lostNumber, lostResult}
 
@@ -25,6 +25,11 @@ abbrev pub after : List ℕ → List Event → List ℕ
 after s [] = s
 after s (e ∷ es) = after (callResult s e) es
 
-abbrev pub accepted : List ℕ → List Event → List Event
-accepted s [] = []
-accepted s (e ∷ es) = cond (eqb (callNumber s e) 0) (e ∷ accepted (callResult s e) es) (accepted (callResult s e) es)
+abbrev pub taken : List ℕ → List Event → List Event
+taken s [] = []
+taken s (e ∷ es) = accepted (callNumber s e) (e ∷ taken (callResult s e) es) (taken (callResult s e) es)
+
+-- no append of a list is refused, each in the store that the one before left
+abbrev pub NoneRefused : List ℕ → List Event → Type 0
+NoneRefused s [] = Unit {0}
+NoneRefused s (e ∷ es) = (callNumber s e ≡ 0) × NoneRefused (callResult s e) es

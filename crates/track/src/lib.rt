@@ -1,13 +1,10 @@
 // The track store: making it, and appending points and lost intervals. Document 01, "Track store".
 use line::all_in_range;
-use line::in_range;
 use line::mode_ok;
 use line::need;
-use line::or_next;
 use line::role_ok;
 use octets::clear;
 use octets::get8;
-use octets::lesser;
 use octets::pattern_of;
 use octets::put_all;
 use octets::put8;
@@ -24,16 +21,16 @@ use store::size_ok;
 ghost use mathlib.Core.Path.{_≡_};
 ghost use mathlib.Core.Bool.{true, false};
 ghost use mathlib.Core.List.{[], _∷_};
-ghost use Prim.Native.Nat.{_+_, _*_, _≤_, _<_};
+ghost use Prim.Native.Nat.{_+_, _*_, _%_, _≤_, _<_};
 ghost use lib.ListN.{length};
-ghost use Rattle.line.specs.Point.{at, pairs};
-ghost use Rattle.line.specs.Refusal.{accepted};
+ghost use Rattle.line.specs.Point.{at, coordinatesIn};
 ghost use Rattle.octets.specs.Number.{le16, le32};
 ghost use Rattle.store.specs.Layout.{rec, write, linkIn, totalAt, held, lostRecord, pointBytes, pointRecord};
 ghost use Rattle.store.specs.Walk.{Viewed};
 ghost use Rattle.track.specs.Append.{made, makeNumber, makeResult, lostNumber, lostResult, hasRoom, pointNumber, pointResult};
-ghost use Rattle.track.specs.Points.{eachNumber, eachResult, pointsNumber, pointsResult};
-ghost use Rattle.track.specs.Seen.{spaces, pointSeen, seenNumber, firstIn, fit, Ends, Reach, placed, nextEnd};
+ghost use Rattle.track.specs.Calls.{after, NoneRefused};
+ghost use Rattle.track.specs.Points.{spaces, pointEvents, pointsNumber, pointsResult};
+ghost use Rattle.track.specs.Seen.{Ends, Reach, placed, nextEnd};
 
 const MOST_INTERVALS: usize = 4294967295;
 
@@ -160,21 +157,6 @@ fn room_for(s: &[u8], v: View) -> usize
     fresh
 }
 
-// The number that refuses a point, or 0.
-fn point_number(number: u8, total: usize, room: usize, re: i16, im: i16) -> u8
-    requires { ⌜ total ≤ 4294967295 ⌝ }
-    ensures { λ r. ⌜ r ≡ pointSeen number total room (at re im) ⌝ }
-{
-    need(
-        in_range(re, im),
-        8,
-        or_next(
-            number,
-            need(total + 1 <= MOST_INTERVALS, 16, need(0 < room, 17, 0)),
-        ),
-    )
-}
-
 // A lost count of at least 1, at the end of the chain that `v` shows: 0, or the number that refuses it.
 fn link_lost(store: &mut [u8], v: View, n: usize) -> u8
     requires { ⌜ Viewed (now store) v × (1 ≤ n) × (n ≤ 4294967295) ⌝ }
@@ -258,63 +240,10 @@ fn place_point(store: &mut [u8], e: End, re: i16, im: i16) -> End
 
 // ---- points
 
-// The number of the first point that is refused, or 0, point by point.
-fn each_number(number: u8, total: usize, room: usize, points: &[i16]) -> u8
-    requires { ⌜ total ≤ 4294967295 ⌝ }
-    ensures { λ r. ⌜ r ≡ seenNumber number total room (pairs (now (points .entry))) ⌝ }
-{
-    let mut taken = total;
-    let mut left = room;
-    let mut k = 0;
-    while k + 1 < points.len() {
-        let n = point_number(number, taken, left, points[k], points[k + 1]);
-        if n != 0 {
-            return n;
-        }
-        taken += 1;
-        left -= 1;
-        k += 2;
-    }
-    0
-}
-
-// Whether the first n points are in range.
-fn points_in_range(points: &[i16], n: usize) -> bool
-    requires { ⌜ 2 * n ≤ length (now points) ⌝ }
-    ensures { λ b. ⌜ b ≡ firstIn n (pairs (now (points .entry))) ⌝ }
-{
-    let end = 2 * n;
-    all_in_range(&points[..end])
-}
-
-// How many of n points only number 8 can refuse.
-fn fitting(number: u8, total: usize, room: usize, n: usize) -> usize
-    requires { ⌜ total ≤ 4294967295 ⌝ }
-    ensures { λ r. ⌜ (r ≡ fit number total room n) × (r ≤ n) × (r ≤ room) × (total + r ≤ 4294967295) ⌝ }
-{
-    if number == 0 {
-        return lesser(n, lesser(room, MOST_INTERVALS - total));
-    }
-    0
-}
-
-// The number of the first point that is refused, or 0: those that fit at once, then what is left.
-fn points_number(number: u8, total: usize, room: usize, points: &[i16]) -> u8
-    requires { ⌜ total ≤ 4294967295 ⌝ }
-    ensures { λ r. ⌜ r ≡ seenNumber number total room (pairs (now (points .entry))) ⌝ }
-{
-    let n = fitting(number, total, room, points.len() / 2);
-    if points_in_range(points, n) {
-        let from = 2 * n;
-        return each_number(number, total + n, room - n, &points[from..]);
-    }
-    8
-}
-
 // Appends points that nothing refuses to the store that `v` shows. The total is written once, after them.
 fn place_points(store: &mut [u8], v: View, points: &[i16])
-    requires { ⌜ Viewed (now store) v × (eachNumber (now store) (pairs (now points)) ≡ 0) ⌝ }
-    ensures { λ _. ⌜ now (store .exit) ≡ eachResult (now (store .entry)) (pairs (now (points .entry))) ⌝ }
+    requires { ⌜ Viewed (now store) v × NoneRefused (now store) (pointEvents (now points)) ⌝ }
+    ensures { λ _. ⌜ now (store .exit) ≡ after (now (store .entry)) (pointEvents (now (points .entry))) ⌝ }
 {
     if points.len() < 2 {
         return;
@@ -330,28 +259,36 @@ fn place_points(store: &mut [u8], v: View, points: &[i16])
     put32(store, TOTAL_AT, total);
 }
 
-// Points, re and im in turn, at the end of the chain that `v` shows, all or none.
+// Points in range at the end of the chain that `v` shows, all or none: 0, or the number that refuses them.
 fn place_all(store: &mut [u8], v: View, points: &[i16]) -> u8
-    requires { ⌜ Viewed (now store) v ⌝ }
-    ensures { λ r. ⌜ (r ≡ eachNumber (now (store .entry)) (pairs (now (points .entry)))) × (now (store .exit) ≡ accepted r (eachResult (now (store .entry)) (pairs (now (points .entry)))) (now (store .entry))) ⌝ }
+    requires { ⌜ Viewed (now store) v × (length (now points) % 2 ≡ 0) × (coordinatesIn (now points) ≡ true) ⌝ }
+    ensures { λ r. ⌜ (r ≡ pointsNumber (now (store .entry)) (now (points .entry))) × (now (store .exit) ≡ pointsResult (now (store .entry)) (now (points .entry))) ⌝ }
 {
-    let number = points_number(0, v.total, room_for(store, v), points);
+    let n = points.len() / 2;
+    let number = need(
+        v.total + n <= MOST_INTERVALS,
+        16,
+        need(n <= room_for(store, v), 17, 0),
+    );
     if number == 0 {
         place_points(store, v, points);
     }
     number
 }
 
-// Appends points, re and im in turn, all or none: 0, or the number that refuses the first refused one. The store is walked
-// once, and the room is counted before anything is written.
+// Appends points, re and im in turn, all or none: 0, or the lowest number that applies to them. The store is walked once, and
+// the number is decided before anything is written.
 pub fn append_points(store: &mut [u8], points: &[i16]) -> u8
     ensures { λ r. ⌜ (r ≡ pointsNumber (now (store .entry)) (now (points .entry))) × (now (store .exit) ≡ pointsResult (now (store .entry)) (now (points .entry))) ⌝ }
 {
     if points.len() % 2 != 0 {
         return 7;
     }
+    if !all_in_range(points) {
+        return 8;
+    }
     match inspect(store) {
-        Inspected::Refused(number) => points_number(number, 0, 0, points),
+        Inspected::Refused(number) => number,
         Inspected::Accepted(v) => place_all(store, v, points),
     }
 }
