@@ -8,7 +8,7 @@ use lib.ListN.{getD}
 use Rattle.line.specs.Table.{entry, rowFrom, below, every}
 use Rattle.line.specs.Mode.{isMode, width, step, states, isState, quadrant, nextQuadrant, turn, turns, wholeSteps, face}
 use Rattle.coding.specs.Code.{changes4, changes8, changes16, coded, eighths, turnRow, group}
-use Rattle.coding.specs.Facts.{quarterTurns, turnsOf, TableTurns, EachPair, EachGroup}
+use Rattle.coding.specs.Laws.{quarterTurns, turnsOf, TableTurns, EachPair, EachGroup}
 use Rattle.line.proofs.TableLaws.{and-left, and-right, below-at, pairs-below, all, test-at}
 use Rattle.line.proofs.StateLaws.{mode-cases, state-at}
 

@@ -1,3 +1,3 @@
 pub mod Code
 pub mod Rows
-pub mod Facts
+pub mod Laws

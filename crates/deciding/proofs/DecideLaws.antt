@@ -15,7 +15,7 @@ use Rattle.line.specs.Table.{every}
 use Rattle.line.specs.Mode.{isMode, states, isState, quadrant, nextQuadrant, step, turn, turns, quarterSteps}
 use Rattle.line.specs.Point.{at, isOrigin, turned, turnedBy, sent27, levels32, sent32, sentPoint}
 use Rattle.deciding.specs.Decide.{square, inFirst, sector, outer, first, turnedAnswer, quarters, decideBy, decide}
-use Rattle.deciding.specs.Facts.{InOneRegion, DecidedState, DecidedSent, TurnDecides, numberOf, statesOf, lostOf, Told}
+use Rattle.deciding.specs.Laws.{InOneRegion, DecidedState, DecidedSent, TurnDecides, numberOf, statesOf, lostOf, Told}
 use Rattle.line.proofs.TableLaws.{below-at}
 use Rattle.line.proofs.StateLaws.{mode-cases, state-at, of-state, turns-state, turns-add, four-quarters}
 use Rattle.deciding.proofs.RingLaws.{by-ring}

@@ -1,3 +1,3 @@
 pub mod Decide
 pub mod Sizes
-pub mod Facts
+pub mod Laws

@@ -6,7 +6,7 @@ ghost use lib.IntN.{pos};
 ghost use lib.ListN.{getD};
 ghost use Rattle.line.specs.Point.{at, isOrigin};
 ghost use Rattle.deciding.specs.Decide.{decide as decideSpec};
-ghost use Rattle.deciding.specs.Facts.{Told};
+ghost use Rattle.deciding.specs.Laws.{Told};
 ghost use Rattle.deciding.specs.Sizes.{bitOf, belowOf, farOf, ringOf, ringIndex};
 use line::size;
 

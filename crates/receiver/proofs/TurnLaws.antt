@@ -10,7 +10,7 @@ use Rattle.line.specs.Table.{every}
 use Rattle.line.specs.Mode.{isMode, width, face, turns, isState}
 use Rattle.coding.specs.Code.{group, coded}
 use Rattle.line.proofs.TableLaws.{and-left, and-right}
-use Rattle.coding.specs.Facts.{OfPair}
+use Rattle.coding.specs.Laws.{OfPair}
 use Rattle.coding.proofs.ModeLaws.{of-pair}
 use Rattle.scrambler.specs.Bits.{bits, value}
 use Rattle.scrambler.proofs.BitLaws.{value-bits}

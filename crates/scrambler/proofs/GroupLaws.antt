@@ -20,7 +20,7 @@ use Rattle.scrambler.specs.Bits.{isBit, bits, value}
 use Rattle.scrambler.specs.Register.{register, nearTap, push, pushes}
 use Rattle.scrambler.specs.Scramble.{mix, scramble, Datum, unsettled, settled, mark, descramble}
 use Rattle.scrambler.specs.Group.{scrambled, plainOf, unsettledIn, descrambled, marked}
-use Rattle.scrambler.specs.Facts.{Unscrambled}
+use Rattle.scrambler.specs.Laws.{Unscrambled}
 use Rattle.scrambler.specs.Windows.{mixedAtOnce}
 use Rattle.scrambler.proofs.BitLaws.{length-bits, value-small, bits-value}
 use Rattle.scrambler.proofs.RegisterLaws.{same-register, push-group, full-push}

@@ -17,7 +17,7 @@ use Rattle.line.proofs.ByMode.{capacity-range}
 use Rattle.scrambler.specs.declared.Register.{Register}
 use Rattle.scrambler.specs.Bits.{isBit, bits}
 use Rattle.scrambler.specs.Register.{register, fresh, back, push, pushes, registerOk}
-use Rattle.scrambler.specs.Facts.{newestFirst, Holds, RegisterHolds, SameAfter}
+use Rattle.scrambler.specs.Laws.{newestFirst, Holds, RegisterHolds, SameAfter}
 use Rattle.scrambler.proofs.BitLaws.{bit, bit-mod, bit-double, bit-new, mod-suc-pow}
 
 pub same-register : (h h′ : Register) → h .bits ≡ h′ .bits → h .held .0 ≡ h′ .held .0 → h ≡ h′

@@ -3,4 +3,4 @@ pub mod Register
 pub mod Scramble
 pub mod Group
 pub mod Windows
-pub mod Facts
+pub mod Laws

@@ -1,6 +1,6 @@
 -- Document 01, "Scrambler": the register of line bits, and what number 4 asks of one.
 -- The register holds the last line bits since the last gap, at most R, as a number with the newest bit lowest, and their count:
--- that this is so is `RegisterHolds` of specs/Facts.
+-- that this is so is `RegisterHolds` of specs/Laws.
 use Prim.Native.Nat.{ℕ, _+_, _*_, _-_, _^_, _/_, _%_, min}
 use mathlib.Core.Bool.{Bool, _&&_}
 use mathlib.Core.List.{List, [], _∷_}

@@ -8,7 +8,7 @@ use lib.ListN.{length, replicate}
 use Rattle.line.specs.Mode.{isMode, width, farTap, capacity, isState, face}
 use Rattle.coding.specs.Code.{coded}
 use Rattle.line.proofs.ByMode.{by-all}
-use Rattle.coding.specs.Facts.{OfGroup}
+use Rattle.coding.specs.Laws.{OfGroup}
 use Rattle.coding.proofs.ModeLaws.{of-group}
 use Rattle.scrambler.specs.declared.Register.{Register}
 use Rattle.scrambler.specs.declared.Scrambled.{Scrambled}

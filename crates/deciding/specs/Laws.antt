@@ -13,7 +13,7 @@ use Rattle.deciding.specs.Decide.{inFirst, turnedAnswer, decide}
 
 -- "where an answer is an enum, a definition gives this paper's number and values for each of the enum's cases"
 
--- 0, or "10 mode 2 point in no sector"
+-- 0, or number 10: a mode 2 point off the origin in none of the eight sectors
 abbrev pub numberOf : Decision → ℕ
 numberOf (State s) = 0
 numberOf Origin = 0
