@@ -7,10 +7,11 @@ use Rattle.line.specs.declared.Point.{Point}
 use Rattle.deciding.specs.declared.Decision.the-variants.{State, Origin, NoSector}
 use Rattle.line.specs.Point.{isOrigin}
 use Rattle.deciding.specs.Decide.{decide}
+use Rattle.deciding.specs.Laws.{EachInASector}
 use Rattle.deciding.proofs.RingLaws.{by-ring, origin-none}
 
 -- every point off the origin is decided as a state, in every mode
-pub never-no-sector : (m : ℕ) (p : Point) → decide m p ≡ NoSector → ⊥
+pub never-no-sector : EachInASector
 never-no-sector m p e = go (isOrigin p) refl
   where
     go : (b : Bool) → isOrigin p ≡ b → ⊥

@@ -1,4 +1,5 @@
--- What `decide` tells in document 01's terms, and what holds of it: the statements, whose proofs are in proofs/DecideLaws.
+-- What `decide` tells in document 01's terms, and what holds of it: the statements, whose proofs are in proofs/DecideLaws
+-- and proofs/SectorLaws.
 use Prim.Native.Nat.{ℕ, _<_}
 use mathlib.Core.Path.{_≡_}
 use mathlib.Core.Bool.{false, cond}
@@ -51,3 +52,7 @@ DecidedSent = (m s : ℕ) → T (isMode m) → T (isState m s) → decide m (sen
 -- a point turned by 90° is decided as the answer turned by 90°
 abbrev pub TurnDecides : Type 0
 TurnDecides = (m : ℕ) (p : Point) → T (isMode m) → decide m (turned p) ≡ turnedAnswer m 1 (decide m p)
+
+-- number 10 is never met: no point is in none of the eight sectors
+abbrev pub EachInASector : Type 0
+EachInASector = (m : ℕ) (p : Point) → decide m p ≡ NoSector → ⊥

@@ -1,10 +1,13 @@
 -- What no refusal says of the needs. Assumes nothing.
 use Prim.Native.Nat.{ℕ, zero, suc, _<_}
-use mathlib.Core.Path.{_≡_, refl}
+use mathlib.Core.Path.{_≡_, refl, ap, _∙_}
 use mathlib.Core.Bool.{Bool, true, false}
+use mathlib.Core.List.{[], _∷_}
 use native.Mathlib.Omega.{arith}
 use lib.Dec.{T}
-use Rattle.line.specs.Refusal.{need, orNext}
+use lib.ListN.{length}
+use Rattle.line.specs.Mode.{isMode, isRole}
+use Rattle.line.specs.Refusal.{need, orNext, accepted, modeRefusal}
 
 pub need-met : (b : Bool) (n k : ℕ) → need b (suc n) k ≡ 0 → T b
 need-met true n k e = tt
@@ -42,3 +45,31 @@ or-zero a b e = (next-first a b e, next-rest a b e)
 pub or-same : (a b b′ : ℕ) → (a ≡ 0 → b ≡ b′) → orNext a b ≡ orNext a b′
 or-same zero b b′ h = h refl
 or-same (suc a) b b′ h = refl
+
+-- what a call leaves: of an accepted one, of a refused one
+pub left-done : {A : Type 0} (n : ℕ) (a b : A) → n ≡ 0 → a ≡ accepted n a b
+left-done zero a b e = refl
+left-done (suc n) a b e = absurd (omega arith)
+
+pub left-kept : {A : Type 0} (n : ℕ) (a b : A) → (n ≡ 0 → ⊥) → b ≡ accepted n a b
+left-kept zero a b h = absurd (h refl)
+left-kept (suc n) a b h = refl
+
+pub left-none : {A : Type 0} (n : ℕ) (a : A) → accepted n (a ∷ []) [] ≡ [] → n ≡ 0 → ⊥
+left-none zero a e z = let l : _≡_ {A = ℕ} 1 0 = ap length e in omega arith
+left-none (suc n) a e z = omega arith
+
+-- numbers 1 and 2, and of a state's other fields 4: what they ask, and that it is enough
+pub mode-met : (m role : ℕ) → modeRefusal m role ≡ 0 → T (isMode m) × T (isRole m role)
+unfolding modeRefusal
+mode-met m role z = (need-met (isMode m) 0 _ z, need-met (isRole m role) 1 0 (need-rest (isMode m) 0 _ z))
+
+pub state-met : (m role : ℕ) (fields : Bool) → orNext (modeRefusal m role) (need fields 4 0) ≡ 0 → T (isMode m) × T (isRole m role) × T fields
+state-met m role fields z =
+    let k = mode-met m role (next-first (modeRefusal m role) _ z) in
+    (k .0, k .1, need-met fields 3 0 (next-rest (modeRefusal m role) _ z))
+
+pub state-free : (m role : ℕ) (fields : Bool) → T (isMode m) → T (isRole m role) → T fields → orNext (modeRefusal m role) (need fields 4 0) ≡ 0
+unfolding modeRefusal
+state-free m role fields a b c =
+    ap (λ (n : ℕ). orNext n (need fields 4 0)) (need-intro (isMode m) 1 _ a (need-intro (isRole m role) 2 0 b refl)) ∙ need-intro fields 4 0 c refl

@@ -2,7 +2,7 @@
 use mathlib.Core.Path.{_≡_, refl, sym, ap, _∙_, subst}
 use mathlib.Core.Bool.{Bool, true, false, _&&_, _||_, not, cond}
 use mathlib.Core.List.{List, [], _∷_}
-use Prim.Native.Nat.{ℕ, zero, suc, _+_, _-_, _%_, _<_, _≤_}
+use Prim.Native.Nat.{ℕ, zero, suc, _+_, _%_, _<_, _≤_}
 use native.Mathlib.Nat.{not-suc-le-zero, mod-lt}
 use native.Mathlib.Omega.{arith}
 use native.Mathlib.Decide.{decLt}
@@ -71,8 +71,7 @@ pairs-below f n k t x y h l = below-at (f x) k (below-at (λ i. every (f i) (bel
 
 -- all of some tests, and the test at a place
 abbrev pub all : List Bool → Bool
-all [] = true
-all (b ∷ bs) = b && all bs
+all bs = every (λ (b : Bool). b) bs
 
 pub test-at : (bs : List Bool) (i : ℕ) → T (all bs) → T (getD bs i true)
 test-at [] i t = tt

@@ -8,7 +8,7 @@ use borrow.Author.Tests.{lt-ltb, le-ltb, ltb-true}
 use lib.Dec.{ltb}
 use lib.ListN.{length, set, length-append}
 use lib.Seq.{sets, set-comm}
-use Rattle.octets.proofs.Tests.{by-test}
+use Rattle.line.proofs.Tests.{by-test}
 use Rattle.octets.proofs.Sets.{sets-then}
 use Rattle.listing.specs.Text.{digits, decimal}
 

@@ -15,7 +15,7 @@ use Rattle.deciding.specs.Decide.{decide}
 use Rattle.line.specs.Refusal.{orNext}
 use Rattle.line.proofs.RefusalLaws.{need-intro}
 use Rattle.octets.specs.Number.{u32, zeros}
-use Rattle.octets.proofs.Tests.{by-test, and-split}
+use Rattle.line.proofs.Tests.{by-test, and-split}
 use Rattle.receiver.specs.declared.Receiver.{Receiver}
 use Rattle.receiver.specs.Receiver.{freshReceiver, isFresh, fieldsOk, inSector, hasRoom, intervals, next}
 use Rattle.receiver.specs.Receiver.{refusal as eventRefused, eventRefusal as eventNeeds}

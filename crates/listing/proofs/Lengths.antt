@@ -15,7 +15,7 @@ use Rattle.coding.specs.Code.{group}
 use Rattle.line.specs.Refusal.{accepted}
 use Rattle.line.proofs.ByMode.{by-all, width-range}
 use Rattle.octets.specs.Number.{u32}
-use Rattle.octets.proofs.Tests.{by-test, and-split}
+use Rattle.line.proofs.Tests.{by-test, and-split}
 use Rattle.scrambler.specs.Scramble.{Datum, descramble}
 use Rattle.scrambler.proofs.BitLaws.{length-bits}
 use Rattle.scrambler.proofs.GroupLaws.{length-descramble}

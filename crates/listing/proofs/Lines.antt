@@ -8,7 +8,7 @@ use borrow.Author.Tests.{eq-eqb, leb-true}
 use lib.Dec.{leb}
 use lib.ListN.{length, drop}
 use Rattle.octets.specs.Number.{u16, u32}
-use Rattle.octets.proofs.Tests.{and-split}
+use Rattle.line.proofs.Tests.{and-split}
 use Rattle.receiver.specs.declared.Intervals.{Intervals}
 use Rattle.receiver.specs.declared.Receiver.{Receiver}
 use Rattle.receiver.specs.declared.Outcome.{Outcome}

@@ -9,7 +9,7 @@ use borrow.Author.Tests.{ltb-true, ltb-false, ne-eqb}
 use lib.Dec.{ltb}
 use lib.ListN.{length, length-append}
 use lib.Seq.{sets}
-use Rattle.octets.proofs.Tests.{by-test}
+use Rattle.line.proofs.Tests.{by-test}
 use Rattle.octets.proofs.Sets.{sets-then}
 use Rattle.scrambler.specs.Bits.{bits}
 use Rattle.scrambler.specs.Group.{marked}

@@ -12,7 +12,7 @@ use lib.ListN.{length, getD, set, drop, drop-of-length-le, replicate}
 use lib.Seq.{sets, drop-cons}
 use Rattle.octets.specs.Number.{zeros}
 use Rattle.octets.proofs.Sets.{sets-out}
-use Rattle.octets.proofs.Tests.{and-split, lt-or-ge}
+use Rattle.line.proofs.Tests.{and-split, lt-or-ge}
 
 -- one byte more looked at
 pub zeros-step : (r : List ℕ) (i : ℕ) (all so-far : Bool) → i < length r → all ≡ (so-far && zeros (drop i r))

@@ -1,7 +1,7 @@
 -- A signed 16-bit number and its pattern, as the code computes them. Assumes nothing.
 use mathlib.Core.Path.{_≡_, refl, sym, ap, _∙_}
 use mathlib.Core.Bool.{Bool, true, false}
-use Prim.Native.Nat.{ℕ, suc, _+_, _-_, _≤_, _<_}
+use Prim.Native.Nat.{ℕ, suc, _-_, _≤_, _<_}
 use native.Mathlib.Omega.{arith}
 use borrow.Author.Tests.{lt-ltb, le-ltb, ltb-true, ltb-false}
 use lib.Dec.{ltb}
@@ -11,7 +11,7 @@ use mir.Syntax.{w16, w32, w64}
 use mir.Val.{Fits, SFits, toZ, ofZ}
 use Rattle.octets.specs.Number.{pattern, signed}
 use Rattle.octets.proofs.Numbers.{pattern-small}
-use Rattle.octets.proofs.Tests.{by-test}
+use Rattle.line.proofs.Tests.{by-test}
 use Rattle.line.proofs.Signed.{back, back32, test-is}
 
 -- the sign of a number as the code tests it

@@ -14,8 +14,8 @@ use Rattle.line.specs.Mode.{isMode, isRole, isState, width, face}
 use Rattle.line.specs.Point.{isOrigin}
 use Rattle.deciding.specs.Decide.{decide}
 use Rattle.coding.specs.Code.{group}
-use Rattle.line.specs.Refusal.{need, orNext, accepted}
-use Rattle.line.proofs.RefusalLaws.{need-met, need-rest, need-intro, next-first, next-rest}
+use Rattle.line.specs.Refusal.{accepted}
+use Rattle.line.proofs.RefusalLaws.{next-first, state-met, state-free}
 use Rattle.line.proofs.TableLaws.{and-left, and-right, and-intro}
 use Rattle.scrambler.specs.declared.Register.{Register}
 use Rattle.scrambler.specs.Register.{fresh, registerOk}
@@ -40,20 +40,12 @@ pub record Valid (s : Receiver) : Type 0 where
   pub fields : T (fieldsOk (s .mode) (s .reference) (s .line))
 
 pub valid : (s : Receiver) → stateRefusal s ≡ 0 → Valid s
-unfolding stateRefusal modeRefusal
-valid s z =
-    let y : modeRefusal (s .mode) (s .role) ≡ 0 = next-first (modeRefusal (s .mode) (s .role)) _ z in
-    record {
-      mode = need-met (isMode (s .mode)) 0 _ y;
-      role = need-met (isRole (s .mode) (s .role)) 1 _ (need-rest (isMode (s .mode)) 0 _ y);
-      fields = need-met (fieldsOk (s .mode) (s .reference) (s .line)) 3 _ (next-rest (modeRefusal (s .mode) (s .role)) _ z);
-    }
+unfolding stateRefusal
+valid s z = let k = state-met (s .mode) (s .role) (fieldsOk (s .mode) (s .reference) (s .line)) z in record { mode = k .0; role = k .1; fields = k .2 }
 
 pub no-refusal : (s : Receiver) → Valid s → stateRefusal s ≡ 0
-unfolding stateRefusal modeRefusal
-no-refusal s v =
-    ap (λ (n : ℕ). orNext n (need (fieldsOk (s .mode) (s .reference) (s .line)) 4 0)) (need-intro (isMode (s .mode)) 1 _ (v .mode) (need-intro (isRole (s .mode) (s .role)) 2 0 (v .role) refl))
-    ∙ need-intro (fieldsOk (s .mode) (s .reference) (s .line)) 4 0 (v .fields) refl
+unfolding stateRefusal
+no-refusal s v = state-free (s .mode) (s .role) (fieldsOk (s .mode) (s .reference) (s .line)) (v .mode) (v .role) (v .fields)
 
 -- an accepted call shows that its state met them
 pub accepted-valid : (s : Receiver) (e : Event) → refusal s e ≡ 0 → Valid s

@@ -23,7 +23,7 @@ use Rattle.sender.specs.declared.Sent.{Sent}
 use Rattle.sender.specs.declared.Sent.the-variants.{Refused, Ready}
 use Rattle.sender.specs.Sender.{hasRoom, dataRefusal, sendRefusal, groups, grouped, afterGroup, afterGroups, sentStates, sendAnswer, sendNumbers}
 use Rattle.sender.specs.Calls.{SentTogether}
-use Rattle.sender.proofs.RefusalLaws.{StateOk, state-met, DataOk, send-ok}
+use Rattle.sender.proofs.RefusalLaws.{StateOk, state-accepted, DataOk, send-ok}
 use Rattle.sender.proofs.SendLaws.{group-mode}
 use Rattle.sender.proofs.StateLaws.{whole-length}
 
@@ -97,7 +97,7 @@ is-T e = subst T (sym e) tt
 pub send-met : (s : Sender) (ds : List ℕ) (lent offset : ℕ) → StateOk s → DataOk (s .mode) ds lent offset → sendRefusal s ds lent offset ≡ 0
 unfolding sendRefusal dataRefusal hasRoom
 send-met s ds lent offset k l =
-    ap (λ (n : ℕ). orNext n (dataRefusal (s .mode) ds lent offset)) (state-met s k)
+    ap (λ (n : ℕ). orNext n (dataRefusal (s .mode) ds lent offset)) (state-accepted s k)
     ∙ need-intro (every isBit ds) 5 _ (l .are-bits)
     (need-intro (eqb (length ds % width (s .mode)) 0) 6 _ (is-T (eq-eqb _ _ (l .whole)))
     (need-intro (leb (offset + 2 * (length ds / width (s .mode))) lent) 7 _ (is-T (le-leb _ _ (l .room))) refl))

@@ -12,7 +12,7 @@ use lib.Seq.{sets}
 use Rattle.line.specs.Mode.{isMode, isRole}
 use Rattle.line.specs.Refusal.{modeRefusal}
 use Rattle.line.specs.Point.{sentPoint}
-use Rattle.line.proofs.RefusalLaws.{need-met, need-rest, next-first, next-rest}
+use Rattle.line.proofs.RefusalLaws.{need-met, need-rest, next-first, next-rest, mode-met}
 use Rattle.training.specs.declared.Coder.{Coder}
 use Rattle.training.specs.Coder.{numbers}
 use Rattle.training.specs.Training.{train, start, intervals, trained, trainedStates}
@@ -21,7 +21,6 @@ use Rattle.training.specs.Ahead.{ahead, aheadStart}
 use Rattle.training.proofs.AheadLaws.{by-table}
 use Rattle.sender.specs.Sender.{hasRoom}
 use Rattle.sender.specs.Open.{lengthOk, openRefusal, trainingNumbers}
-use Rattle.sender.proofs.RefusalLaws.{mode-met}
 use Rattle.sender.proofs.SendLaws.{point-step}
 
 -- what is left of n intervals by a rule

@@ -1,6 +1,6 @@
 -- What the functions that refuse compute, and what no refusal says and needs. Assumes nothing.
 use Prim.Native.Nat.{ℕ, _+_, _*_, _-_, _/_, _%_, _<_, _≤_}
-use mathlib.Core.Path.{_≡_, refl, sym, _∙_, ap}
+use mathlib.Core.Path.{_≡_, sym, _∙_, ap}
 use mathlib.Core.Bool.{Bool, false, _&&_, and-assoc, and-true}
 use mathlib.Core.List.{List}
 use native.Mathlib.Numerals.{add-one}
@@ -12,8 +12,7 @@ use lib.ListN.{length, getD, drop, drop-of-length-le}
 use lib.Seq.{drop-cons}
 use Rattle.line.specs.Table.{every}
 use Rattle.line.specs.Mode.{isMode, isRole, width}
-use Rattle.line.specs.Refusal.{need, orNext, modeRefusal}
-use Rattle.line.proofs.RefusalLaws.{need-met, need-rest, need-intro, next-first, next-rest}
+use Rattle.line.proofs.RefusalLaws.{need-met, need-rest, next-first, next-rest, state-met, state-free}
 use Rattle.scrambler.specs.Bits.{isBit}
 use Rattle.sender.specs.declared.Sender.{Sender}
 use Rattle.sender.specs.Sender.{fieldsOk, stateRefusal, hasRoom, dataRefusal, sendRefusal}
@@ -51,22 +50,13 @@ pub record StateOk (s : Sender) : Type 0 where
   pub role : T (isRole (s .mode) (s .role))
   pub fields : T (fieldsOk s)
 
-pub mode-met : (m role : ℕ) → modeRefusal m role ≡ 0 → T (isMode m) × T (isRole m role)
-unfolding modeRefusal
-mode-met m role z = (need-met (isMode m) 0 _ z, need-met (isRole m role) 1 0 (need-rest (isMode m) 0 _ z))
-
 pub state-ok : (s : Sender) → stateRefusal s ≡ 0 → StateOk s
 unfolding stateRefusal
-state-ok s z =
-    let k = mode-met (s .mode) (s .role) (next-first (modeRefusal (s .mode) (s .role)) _ z) in
-    record { mode = k .0; role = k .1; fields = need-met (fieldsOk s) 3 0 (next-rest (modeRefusal (s .mode) (s .role)) _ z) }
+state-ok s z = let k = state-met (s .mode) (s .role) (fieldsOk s) z in record { mode = k .0; role = k .1; fields = k .2 }
 
-pub state-met : (s : Sender) → StateOk s → stateRefusal s ≡ 0
-unfolding stateRefusal modeRefusal
-state-met s k =
-    ap (λ (n : ℕ). orNext n (need (fieldsOk s) 4 0))
-    (need-intro (isMode (s .mode)) 1 _ (k .mode) (need-intro (isRole (s .mode) (s .role)) 2 _ (k .role) refl))
-    ∙ need-intro (fieldsOk s) 4 _ (k .fields) refl
+pub state-accepted : (s : Sender) → StateOk s → stateRefusal s ≡ 0
+unfolding stateRefusal
+state-accepted s k = state-free (s .mode) (s .role) (fieldsOk s) (k .mode) (k .role) (k .fields)
 
 pub record DataOk (m : ℕ) (ds : List ℕ) (lent offset : ℕ) : Type 0 where
   pub are-bits : T (every isBit ds)

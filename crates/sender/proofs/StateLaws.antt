@@ -23,7 +23,7 @@ use Rattle.sender.specs.declared.Sent.the-variants.{Ready}
 use Rattle.sender.specs.Sender.{coderOf, senderOf, fieldsOk, stateRefusal, groups, grouped, afterGroup, afterGroups, sendRefusal, answered, sendAnswer}
 use Rattle.sender.specs.Open.{openRefusal, opened, openAnswer}
 use Rattle.sender.specs.Calls.{Passes, OpenedPasses, SentPasses}
-use Rattle.sender.proofs.RefusalLaws.{StateOk, state-ok, state-met, DataOk, send-ok}
+use Rattle.sender.proofs.RefusalLaws.{StateOk, state-ok, state-accepted, DataOk, send-ok}
 use Rattle.sender.proofs.SendLaws.{every-take, every-drop, group-mode}
 use Rattle.sender.proofs.OpenLaws.{open-ok}
 
@@ -47,7 +47,7 @@ fields-pass m role c k =
     (and-intro (eqb (c .line .held .0) (capacity m)) _ (subst T (sym (eq-eqb (c .line .held .0) (capacity m) (k .full))) tt) (passes m (c .line) (k .fit)))
 
 state-passes : (m role : ℕ) (c : Coder) → T (isMode m) → T (isRole m role) → CanSend m c → stateRefusal (senderOf m role c) ≡ 0
-state-passes m role c hm hr k = state-met (senderOf m role c) (record { mode = hm; role = hr; fields = fields-pass m role c k })
+state-passes m role c hm hr k = state-accepted (senderOf m role c) (record { mode = hm; role = hr; fields = fields-pass m role c k })
 
 -- WHOLE GROUPS
 
@@ -97,4 +97,4 @@ pub sent-passes : SentPasses
 unfolding sendAnswer
 sent-passes s ds lent offset =
     passes-if (sendRefusal s ds lent offset) _ (λ z. let k = send-ok s ds lent offset z in
-    groups-pass s (grouped (width (s .mode)) ds) (state-met s (k .0)) (groups-accepted (s .mode) ds lent offset (k .1)))
+    groups-pass s (grouped (width (s .mode)) ds) (state-accepted s (k .0)) (groups-accepted (s .mode) ds lent offset (k .1)))

@@ -11,7 +11,7 @@ use lib.Seq.{drop-drop}
 use Rattle.line.specs.Point.{at, inRange}
 use Rattle.octets.specs.Number.{u16, i16, signed, zeros}
 use Rattle.octets.proofs.Numbers.{u16-drop}
-use Rattle.octets.proofs.Tests.{by-test, and-split}
+use Rattle.line.proofs.Tests.{by-test, and-split}
 use Rattle.octets.proofs.Loops.{zeros-drop}
 use Rattle.store.specs.Layout.{pointAt, pointsOk}
 

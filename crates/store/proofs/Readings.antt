@@ -15,7 +15,8 @@ use mir.Syntax.{w64}
 use mir.Val.{toZ, ofZ}
 use Rattle.line.specs.Point.{at}
 use Rattle.octets.specs.Number.{i16, u32}
-use Rattle.octets.proofs.Tests.{and-split, left-done, left-kept, left-none}
+use Rattle.line.proofs.Tests.{and-split}
+use Rattle.line.proofs.RefusalLaws.{left-done, left-kept, left-none, or-some}
 use Rattle.octets.proofs.Sets.{sets-then}
 use Rattle.store.specs.Chain.{walk, gather}
 use Rattle.store.specs.Layout.{Event, point, lost, count, rec, next, kind, held, points, eventsOf}
@@ -31,7 +32,6 @@ use Rattle.store.proofs.Views.{told-refused}
 use Rattle.store.proofs.Chains.{ends, run-ends, run-short}
 use Rattle.store.proofs.Going.{walk-step, walk-zero, ends-step}
 use Rattle.store.proofs.PointRuns.{point-at, drop-next}
-use Rattle.line.proofs.RefusalLaws.{or-some}
 use Rattle.store.proofs.Sounds.{accepted-sound}
 
 -- ---- the chain

@@ -1,13 +1,13 @@
 -- Records: a write into record i is a write into that record's bytes, and leaves the others alone. Assumes nothing.
 use mathlib.Core.Path.{_≡_, refl, ap, _∙_}
-use mathlib.Core.Logic.{_≢_, ⊎-elim, _⊎_, inl}
+use mathlib.Core.Logic.{_≢_, ⊎-elim, inl}
 use mathlib.Core.List.{List}
 use Prim.Native.Nat.{ℕ, zero, suc, _+_, _*_, _-_, _≤_, _<_}
 use native.Mathlib.Omega.{arith}
 use lib.ListN.{length, getD, take, drop, length-drop}
 use lib.Seq.{sets, length-sets, length-take-le, getD-take, getD-drop}
 use Rattle.octets.specs.Number.{u16, u32, le16, le32}
-use Rattle.octets.proofs.Tests.{lt-or-ge}
+use Rattle.line.proofs.Tests.{lt-or-ge}
 use Rattle.octets.proofs.Sets.{take-sets-le, take-sets-in, drop-sets-le, drop-sets-in, getD-sets-out}
 use Rattle.octets.proofs.Numbers.{u16-drop, u16-out, u16-in, u32-in}
 use Rattle.store.specs.Layout.{rec, write, linkIn, next}

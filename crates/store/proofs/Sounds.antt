@@ -2,13 +2,13 @@
 use mathlib.Core.Path.{_≡_}
 use mathlib.Core.Bool.{true, _&&_}
 use mathlib.Core.List.{List}
-use Prim.Native.Nat.{ℕ, _*_, _-_, _%_, _≤_, _<_}
+use Prim.Native.Nat.{ℕ, _*_, _%_, _≤_, _<_}
 use native.Mathlib.Omega.{arith}
 use borrow.Author.Tests.{eqb-true, eq-eqb, leb-true, le-leb}
 use lib.Dec.{eqb, leb}
 use lib.ListN.{length}
 use Rattle.line.proofs.RefusalLaws.{need-zero}
-use Rattle.octets.proofs.Tests.{and-split}
+use Rattle.line.proofs.Tests.{and-split}
 use Rattle.line.specs.Table.{All}
 use Rattle.store.specs.Chain.{greatest, sumOver}
 use Rattle.store.specs.Layout.{count, rec, next, recordOk, spanOf}

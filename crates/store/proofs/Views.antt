@@ -8,9 +8,9 @@ use lib.Dec.{eqb}
 use lib.ListN.{getD}
 use Rattle.line.specs.Refusal.{need}
 use Rattle.line.specs.Table.{All}
-use Rattle.line.proofs.RefusalLaws.{need-zero}
+use Rattle.line.proofs.RefusalLaws.{need-zero, left-done, left-kept, left-none}
 use Rattle.octets.specs.Number.{u32}
-use Rattle.octets.proofs.Tests.{by-test, left-done, left-kept, left-none}
+use Rattle.line.proofs.Tests.{by-test}
 use Rattle.store.specs.declared.Trail.{Trail}
 use Rattle.store.specs.declared.View.{View}
 use Rattle.store.specs.declared.Inspected.{Inspected}

@@ -24,8 +24,8 @@ use Rattle.store.specs.declared.Inspected.{Inspected}
 use Rattle.store.specs.declared.Inspected.the-variants.{Refused}
 use Rattle.store.proofs.Views.{told-refused}
 use Rattle.track.specs.Points.{spaces}
-use Rattle.octets.proofs.Tests.{by-test, and-split, left-done, left-kept}
-use Rattle.line.proofs.RefusalLaws.{need-zero, or-some, or-zero}
+use Rattle.line.proofs.Tests.{by-test, and-split}
+use Rattle.line.proofs.RefusalLaws.{left-done, left-kept, need-zero, or-some, or-zero}
 use Rattle.store.proofs.Sounds.{accepted-sound, sound-last, sound-greatest}
 
 -- ---- making

@@ -3,7 +3,7 @@ use mathlib.Core.Path.{_≡_, refl, sym, ap, ap₂, _∙_, subst}
 use mathlib.Core.Logic.{_≢_, inl}
 use mathlib.Core.Bool.{true, false, not, _&&_, false≢true}
 use mathlib.Core.List.{List, [], _∷_, _++_}
-use Prim.Native.Nat.{ℕ, zero, suc, _+_, _*_, _-_, _/_, _%_, _≤_, _<_}
+use Prim.Native.Nat.{ℕ, zero, suc, _+_, _*_, _/_, _%_, _≤_, _<_}
 use native.Mathlib.Omega.{arith}
 use native.Mathlib.Numerals.{add-one}
 use borrow.Author.Tests.{ltb-true, eqb-true, eqb-false, leb-true, le-leb}
@@ -17,7 +17,7 @@ use Rattle.line.specs.Table.{All}
 use Rattle.line.specs.declared.Point.{Point}
 use Rattle.line.specs.Point.{at, inRange}
 use Rattle.octets.specs.Number.{u16, u32, le16, le32, pattern, signed, zeros}
-use Rattle.octets.proofs.Tests.{by-test, and-split, and-join}
+use Rattle.line.proofs.Tests.{by-test, and-split, and-join}
 use Rattle.octets.proofs.Sets.{drop-sets-le, getD-sets-in, getD-sets-out, drop-sets-in, sets-whole}
 use Rattle.octets.proofs.Numbers.{halves, quarters, u16-out, u16-at, pattern-small, signed-pattern}
 use Rattle.octets.proofs.Loops.{zeros-drop}

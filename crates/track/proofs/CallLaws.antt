@@ -7,7 +7,8 @@ use native.Mathlib.Omega.{arith}
 use borrow.Author.Tests.{eqb-true, eqb-false, le-leb}
 use lib.Dec.{eqb, leb}
 use lib.ListN.{length, drop}
-use Rattle.octets.proofs.Tests.{by-test, left-kept}
+use Rattle.line.proofs.Tests.{by-test}
+use Rattle.line.proofs.RefusalLaws.{left-kept}
 use Rattle.store.specs.Chain.{sumOver, gather}
 use Rattle.store.specs.Layout.{Event, point, lost, rec, held, isPoints, points, spanOf, eventsOf}
 use Rattle.store.specs.Reads.{readNumber, readCount, readResult}

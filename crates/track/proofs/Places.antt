@@ -4,7 +4,7 @@ use mathlib.Core.Bool.{true, false}
 use mathlib.Core.List.{List, [], _∷_, _++_}
 use mathlib.Core.Logic.{_⊎_, inl, inr}
 use native.Mathlib.Numerals.{add-one}
-use Prim.Native.Nat.{ℕ, zero, suc, _+_, _*_, _-_, _/_, _≤_, _<_}
+use Prim.Native.Nat.{ℕ, zero, suc, _+_, _*_, _/_, _≤_, _<_}
 use native.Mathlib.Omega.{arith}
 use borrow.Author.Tests.{ne-eqb, lt-ltb, le-ltb, ltb-true, ltb-false}
 use lib.Dec.{ltb}
@@ -13,7 +13,7 @@ use lib.Seq.{sets}
 use Rattle.line.specs.declared.Point.{Point}
 use Rattle.octets.specs.Number.{le16, le32}
 use Rattle.octets.proofs.Sets.{sets-swap, sets-over}
-use Rattle.octets.proofs.Tests.{by-test}
+use Rattle.line.proofs.Tests.{by-test}
 use Rattle.store.specs.declared.View.{View}
 use Rattle.store.specs.Walk.{Viewed}
 use Rattle.track.specs.declared.End.{End}

@@ -14,8 +14,8 @@ use Rattle.line.specs.Point.{at, pairs, coordinateIn, inRange, coordinatesIn}
 use Rattle.line.specs.Refusal.{need, orNext, accepted}
 use Rattle.line.specs.Table.{every}
 use Rattle.line.proofs.PointLaws.{pairs-step, pairs-end, pairs-length}
-use Rattle.line.proofs.RefusalLaws.{need-zero, or-some, or-zero, or-same}
-use Rattle.octets.proofs.Tests.{and-split, and-join, left-done, left-kept}
+use Rattle.line.proofs.RefusalLaws.{need-zero, or-some, or-zero, or-same, left-done, left-kept}
+use Rattle.line.proofs.Tests.{and-split, and-join}
 use Rattle.octets.specs.Number.{le32}
 use Rattle.store.specs.declared.View.{View}
 use Rattle.store.specs.declared.Inspected.{Inspected}
@@ -27,7 +27,7 @@ use Rattle.store.proofs.Sounds.{accepted-sound, sound-last}
 use Rattle.store.proofs.Views.{told-refused}
 use Rattle.track.specs.declared.End.{End}
 use Rattle.track.specs.Append.{mostIntervals, isFull, hasRoom, pointAppended, pointNumber, pointResult}
-use Rattle.track.specs.Calls.{after, taken, NoneRefused}
+use Rattle.track.specs.Calls.{after, taken, EachAccepted}
 use Rattle.track.specs.Points.{pointEvents, spaces, pointsNumber, pointsResult, JustWhen, AllTaken}
 use Rattle.track.specs.Seen.{Ends, Reach, placed, nextEnd}
 use Rattle.track.proofs.Answers.{point-free, free-point, spaces-some, point-done}
@@ -48,26 +48,26 @@ pub record Fits (s : List ℕ) (ps : List Point) : Type 0 where
   pub fits : total s + length ps ≤ 4294967295
   pub room : length ps ≤ spaces s
 
-pub none-refused : (s : List ℕ) (ps : List Point) → refusal s ≡ 0 → Fits s ps → NoneRefused s (map point ps)
+pub none-refused : (s : List ℕ) (ps : List Point) → refusal s ≡ 0 → Fits s ps → EachAccepted s (map point ps)
 none-refused s [] acc f = tt
 none-refused s (p ∷ ps) acc f =
     let r = and-split (inRange p) (every inRange ps) (f .range) in
     let z : pointNumber s p ≡ 0 = free-point s p acc (r .0) (omega (arith, f .fits)) (omega (arith, f .room)) in
     let a = point-appended s p z in (
       z,
-      subst (λ (u : List ℕ). NoneRefused u (map point ps)) (point-done s p z)
+      subst (λ (u : List ℕ). EachAccepted u (map point ps)) (point-done s p z)
           (none-refused (pointAppended s p) ps (a .accepted)
           (record { range = r .1; fits = omega (arith, a .total-is, f .fits); room = omega (arith, spaces-less s p z, f .room) })),
     )
 
-fits-none : (s : List ℕ) (ps : List Point) → total s ≤ 4294967295 → NoneRefused s (map point ps) → Fits s ps
+fits-none : (s : List ℕ) (ps : List Point) → total s ≤ 4294967295 → EachAccepted s (map point ps) → Fits s ps
 fits-none s [] h n = record { range = refl; fits = omega arith; room = omega arith }
 fits-none s (p ∷ ps) h n =
     let z : pointNumber s p ≡ 0 = n .0 in
     let a = point-appended s p z in
     let q = point-free s p z in
     let t : total (pointAppended s p) ≤ 4294967295 = omega (arith, a .total-is, q .fits) in
-    let f : Fits (pointAppended s p) ps = fits-none (pointAppended s p) ps t (subst (λ (u : List ℕ). NoneRefused u (map point ps)) (sym (point-done s p z)) (n .1)) in
+    let f : Fits (pointAppended s p) ps = fits-none (pointAppended s p) ps t (subst (λ (u : List ℕ). EachAccepted u (map point ps)) (sym (point-done s p z)) (n .1)) in
     record {
       range = and-join (inRange p) (every inRange ps) (q .range) (f .range);
       fits = omega (arith, a .total-is, f .fits);
@@ -98,7 +98,7 @@ just-when s zs h = (
   (λ w. fits-number s zs (w .0) (w .1) (fits-none s (pairs zs) h (w .2))),
 )
 
-taken-all : (s : List ℕ) (es : List Event) → NoneRefused s es → taken s es ≡ es
+taken-all : (s : List ℕ) (es : List Event) → EachAccepted s es → taken s es ≡ es
 taken-all s [] n = refl
 taken-all s (e ∷ es) n = sym (left-done _ _ _ (n .0)) ∙ ap (λ (l : List Event). e ∷ l) (taken-all _ es (n .1))
 
@@ -116,15 +116,15 @@ pub record Placing (s₀ s : List ℕ) (d : End) (t : ℕ) (zs : List ℤ) (k : 
   pub kept : 0 < k → sets full 8 (le32 t) ≡ full
   pub ends : Ends full t d
   pub fits : t < 4294967296
-  pub free : NoneRefused full (pointEvents (drop k zs))
+  pub free : EachAccepted full (pointEvents (drop k zs))
   pub left : after full (pointEvents (drop k zs)) ≡ after s₀ (pointEvents zs)
 
-first-free : (s : List ℕ) (zs : List ℤ) (k : ℕ) → k + 1 < length zs → NoneRefused s (pointEvents (drop k zs))
+first-free : (s : List ℕ) (zs : List ℤ) (k : ℕ) → k + 1 < length zs → EachAccepted s (pointEvents (drop k zs))
     → (pointNumber s (at (getD zs k (pos 0)) (getD zs (k + 1) (pos 0))) ≡ 0)
-    × NoneRefused (pointResult s (at (getD zs k (pos 0)) (getD zs (k + 1) (pos 0)))) (pointEvents (drop (k + 2) zs))
-first-free s zs k h n = subst (λ (ps : List Point). NoneRefused s (map point ps)) (pairs-step zs k h) n
+    × EachAccepted (pointResult s (at (getD zs k (pos 0)) (getD zs (k + 1) (pos 0)))) (pointEvents (drop (k + 2) zs))
+first-free s zs k h n = subst (λ (ps : List Point). EachAccepted s (map point ps)) (pairs-step zs k h) n
 
-pub placing-start : (s : List ℕ) (v : View) (d : End) (zs : List ℤ) → Viewed s v → NoneRefused s (pointEvents zs) → 2 ≤ length zs
+pub placing-start : (s : List ℕ) (v : View) (d : End) (zs : List ℤ) → Viewed s v → EachAccepted s (pointEvents zs) → 2 ≤ length zs
     → Ends s (v .total) d → Placing s s d (v .total) zs 0
 placing-start s v d zs w e h g =
     record {
@@ -171,7 +171,7 @@ module _ (s₀ s : List ℕ) (d : End) (t : ℕ) (zs : List ℤ) (k : ℕ) (g : 
         kept = λ p. o .1;
         ends = subst (Ends u (t + 1)) (sym q) (ends-next (g .full) here here-free t d (g .ends));
         fits = omega (arith, point-free (g .full) here here-free .fits, g .ends .total-is);
-        free = subst (λ (x : List ℕ). NoneRefused x (pointEvents (drop (k + 2) zs))) (sym r) (first-free (g .full) zs k h (g .free) .1);
+        free = subst (λ (x : List ℕ). EachAccepted x (pointEvents (drop (k + 2) zs))) (sym r) (first-free (g .full) zs k h (g .free) .1);
         left = ap (λ (x : List ℕ). after x (pointEvents (drop (k + 2) zs))) r ∙ sym (ap (λ (ps : List Point). after (g .full) (map point ps)) (pairs-step zs k h)) ∙ g .left;
       }
 
@@ -211,7 +211,7 @@ module _ (s : List ℕ) (zs : List ℤ) (even : length zs % 2 ≡ 0) where
       let l : length (pairs zs) ≡ length zs / 2 = omega (arith, pairs-length zs, even) in
       rw (eq-eqb (length zs % 2) 0 even, sym (all-in zs even) ∙ r, w .accepted, ← w .total-is, ← m, l) e
 
-pub points-free : (s : List ℕ) (zs : List ℤ) → pointsNumber s zs ≡ 0 → NoneRefused s (pointEvents zs)
+pub points-free : (s : List ℕ) (zs : List ℤ) → pointsNumber s zs ≡ 0 → EachAccepted s (pointEvents zs)
 points-free s zs e = let f = number-fits s zs e in none-refused s (pairs zs) (f .1) (f .2)
 
 pub points-done : (s s′ : List ℕ) (zs : List ℤ) → pointsNumber s zs ≡ 0 → s′ ≡ after s (pointEvents zs) → s′ ≡ pointsResult s zs

@@ -40,9 +40,9 @@ taken s [] = []
 taken s (e ∷ es) = accepted (callNumber s e) (e ∷ taken (callResult s e) es) (taken (callResult s e) es)
 
 -- no append of a list is refused, each in the store that the one before left
-abbrev pub NoneRefused : List ℕ → List Event → Type 0
-NoneRefused s [] = Unit {0}
-NoneRefused s (e ∷ es) = (callNumber s e ≡ 0) × NoneRefused (callResult s e) es
+abbrev pub EachAccepted : List ℕ → List Event → Type 0
+EachAccepted s [] = Unit {0}
+EachAccepted s (e ∷ es) = (callNumber s e ≡ 0) × EachAccepted (callResult s e) es
 
 -- WHAT A LIST LEAVES
 

@@ -2,6 +2,7 @@
 use mathlib.Core.Path.{_≡_}
 use mathlib.Core.Bool.{cond}
 use mathlib.Core.List.{List, map}
+use mathlib.Core.Logic.{_↔_}
 use Prim.Native.Nat.{ℕ, _+_, _*_, _-_, _%_, _≤_}
 use lib.Dec.{eqb, leb}
 use lib.IntN.{ℤ}
@@ -12,7 +13,7 @@ use Rattle.line.specs.Table.{every}
 use Rattle.store.specs.Layout.{Event, point, count, rec, held}
 use Rattle.store.specs.Store.{chain, lastIn, total, refusal}
 use Rattle.track.specs.Append.{mostIntervals, newIndex, hasRoom}
-use Rattle.track.specs.Calls.{after, taken, NoneRefused}
+use Rattle.track.specs.Calls.{after, taken, EachAccepted}
 
 -- the appends: re and im in turn are a point
 abbrev pub pointEvents : List ℤ → List Event
@@ -35,13 +36,11 @@ pointsNumber s zs =
 unfoldable pub pointsResult : List ℕ → List ℤ → List ℕ
 pointsResult s zs = accepted (pointsNumber s zs) (after s (pointEvents zs)) s
 
--- the call is accepted just when the count is even, the store is accepted and no single append is refused; the total of a store
--- of bytes is four bytes, so that it is never above the greatest
+-- the call is accepted just when the count is even, the store is accepted and no single append is refused. The total is a u32.
 abbrev pub JustWhen : Type 0
 JustWhen =
     (s : List ℕ) (zs : List ℤ) → total s ≤ mostIntervals
-    → (pointsNumber s zs ≡ 0 → (length zs % 2 ≡ 0) × (refusal s ≡ 0) × NoneRefused s (pointEvents zs))
-    × ((length zs % 2 ≡ 0) × (refusal s ≡ 0) × NoneRefused s (pointEvents zs) → pointsNumber s zs ≡ 0)
+    → (pointsNumber s zs ≡ 0 ↔ ((length zs % 2 ≡ 0) × (refusal s ≡ 0) × EachAccepted s (pointEvents zs)))
 
 -- and then all the points are accepted appends
 abbrev pub AllTaken : Type 0
