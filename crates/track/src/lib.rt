@@ -28,7 +28,7 @@ ghost use Rattle.octets.specs.Number.{le16};
 ghost use Rattle.store.specs.Layout.{rec, write, linkIn, held, lostRecord, pointBytes, pointRecord};
 ghost use Rattle.store.specs.Walk.{Viewed};
 ghost use Rattle.track.specs.Append.{made, makeNumber, makeResult, lostNumber, lostResult, hasRoom, pointNumber, pointResult};
-ghost use Rattle.track.specs.Calls.{after, NoneRefused};
+ghost use Rattle.track.specs.Calls.{after, EachAccepted};
 ghost use Rattle.track.specs.Points.{spaces, pointEvents, pointsNumber, pointsResult};
 ghost use Rattle.track.specs.Seen.{Ends, Reach, placed, nextEnd};
 
@@ -238,7 +238,7 @@ fn place_point(store: &mut [u8], e: End, re: i16, im: i16) -> End
 
 // Appends points that nothing refuses to the store that `v` shows. The total is written once, after them.
 fn place_points(store: &mut [u8], v: View, points: &[i16])
-    requires { ⌜ Viewed (now store) v × NoneRefused (now store) (pointEvents (now points)) ⌝ }
+    requires { ⌜ Viewed (now store) v × EachAccepted (now store) (pointEvents (now points)) ⌝ }
     ensures { λ _. ⌜ now (store .exit) ≡ after (now (store .entry)) (pointEvents (now (points .entry))) ⌝ }
 {
     if points.len() < 2 {
