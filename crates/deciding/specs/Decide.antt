@@ -14,7 +14,7 @@ use Rattle.line.specs.Point.{isOrigin, turnedBy}
 abbrev pub within45 : ℤ → ℤ → Bool
 within45 x y = ltZ (negℤ x) y && leZ y x
 
--- The region whose points are decided as they stand; "the others are its turns".
+-- The region whose points are decided as they stand; the others are its turns.
 -- Mode 1: about state 0. Mode 2: im ≥ 0 and re > 0. Mode 3: about C, with p = 3·re + im and q = 3·im - re. Mode 4: quadrant I.
 unfoldable pub inFirst : ℕ → Point → Bool
 inFirst m z =

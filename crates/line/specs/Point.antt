@@ -68,6 +68,6 @@ sentPoint m s =
     let v32 : Point = getD sent32 (s % 16) (at (pos 0) (pos 0)) in
     byMode m v27 v27 v32 v32
 
--- "a turn of 90° takes a state to the one sent at its turned point", in every mode: `sent-turned` of proofs/StateLaws
+-- "a turn of 90° takes a V.32 state to the one sent at its turned point", and so in every mode: `sent-turned` of proofs/StateLaws
 abbrev pub SentTurned : Type 0
 SentTurned = (m x : ℕ) → T (isMode m) → T (isState m x) → sentPoint m (turns m (quarterSteps m) x) ≡ turned (sentPoint m x)
