@@ -23,7 +23,7 @@ use Rattle.store.specs.Store.{chain, total}
 use Rattle.track.specs.Append.{newIndex, hasRoom, pointAppended, pointNumber}
 use Rattle.store.specs.Store.{lastIn}
 use Rattle.track.specs.Points.{spaces}
-use Rattle.track.specs.Seen.{Ends, placed, nextEnd}
+use Rattle.track.specs.Placing.{Ends, placed, nextEnd}
 use Rattle.store.proofs.Chains.{greatest-new, last-snoc}
 use Rattle.track.proofs.Appends.{Appended, GrownLast, point-law, point-linked, point-grown}
 use Rattle.track.proofs.Answers.{PointFree, point-free, room-less}

@@ -29,7 +29,7 @@ use Rattle.track.specs.declared.End.{End}
 use Rattle.track.specs.Append.{mostIntervals, isFull, hasRoom, pointAppended, pointNumber, pointResult}
 use Rattle.track.specs.Calls.{after, taken, EachAccepted}
 use Rattle.track.specs.Points.{pointEvents, spaces, pointsNumber, pointsResult, JustWhen, AllTaken}
-use Rattle.track.specs.Seen.{Ends, Reach, placed, nextEnd}
+use Rattle.track.specs.Placing.{Ends, Reach, placed, nextEnd}
 use Rattle.track.proofs.Answers.{point-free, free-point, spaces-some, point-done}
 use Rattle.track.proofs.Places.{point-appended, spaces-less, Apart, apart-placed, total-over, placed-total, ends-next, last-positive, new-room}
 

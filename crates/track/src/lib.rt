@@ -30,7 +30,7 @@ ghost use Rattle.store.specs.Walk.{Viewed};
 ghost use Rattle.track.specs.Append.{made, makeNumber, makeResult, lostNumber, lostResult, hasRoom, pointNumber, pointResult};
 ghost use Rattle.track.specs.Calls.{after, EachAccepted};
 ghost use Rattle.track.specs.Points.{spaces, pointEvents, pointsNumber, pointsResult};
-ghost use Rattle.track.specs.Seen.{Ends, Reach, placed, nextEnd};
+ghost use Rattle.track.specs.Placing.{Ends, Reach, placed, nextEnd};
 
 const MOST_INTERVALS: usize = 4294967295;
 

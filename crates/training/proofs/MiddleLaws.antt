@@ -27,7 +27,7 @@ from (x ∷ xs) n t (suc k) h =
 
 pub table-rule : TableRule
 table-rule xs e t =
-    record { at = λ k h. from xs 0 t k (subst (λ (n : ℕ). k < n) e h) ∙ ap change (zero-add k) }
+    record { size = sym e; at = λ k h. from xs 0 t k (subst (λ (n : ℕ). k < n) e h) ∙ ap change (zero-add k) }
 
 -- the register that the middle changes leave, of either length
 end-58 : threes 58 ≡ register 0b0010001 7

@@ -1,11 +1,12 @@
 -- Document 01, "Sender": "The middle changes follow every third bit (the first of three) of ones scrambled from the register
 -- 0 1 1 1 1 0 0, oldest first. They stand as a table of 1,074 entries."
-use Prim.Native.Nat.{ℕ, zero, suc, _<_}
+use Prim.Native.Nat.{ℕ, zero, suc}
 use mathlib.Core.Path.{_≡_}
 use mathlib.Core.Bool.{Bool, true, _&&_}
 use mathlib.Core.List.{List, [], _∷_}
 use lib.Dec.{T, eqb}
 use lib.ListN.{length, getD}
+use Rattle.line.specs.Table.{Tabled}
 use Rattle.scrambler.specs.declared.Register.{Register}
 use Rattle.scrambler.specs.Register.{register, pushes}
 use Rattle.scrambler.specs.Scramble.{scramble}
@@ -25,8 +26,8 @@ unfoldable pub change : ℕ → ℕ
 change k = getD (three (threes k)) 0 0
 
 -- the table's rule, at each of its entries
-pub record MiddleTable (t : List ℕ) : Type 0 where
-  pub at : (k : ℕ) → k < 1074 → getD t k 0 ≡ change k
+abbrev pub MiddleTable : List ℕ → Type 0
+MiddleTable t = Tabled 1074 change 0 t
 
 -- the test of a whole table, in one pass that carries the register: each entry is the first of the three bits that follow it
 abbrev pub walk : Register → List ℕ → Bool
