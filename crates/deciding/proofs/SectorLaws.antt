@@ -6,7 +6,6 @@ use native.Mathlib.Omega.{arith}
 use Rattle.line.specs.declared.Point.{Point}
 use Rattle.deciding.specs.declared.Decision.the-variants.{State, Origin, NoSector}
 use Rattle.line.specs.Point.{isOrigin}
-use Rattle.deciding.specs.Decide.{decide}
 use Rattle.deciding.specs.Laws.{EachInASector}
 use Rattle.deciding.proofs.RingLaws.{by-ring, origin-none}
 

@@ -10,8 +10,8 @@ use Rattle.line.specs.Mode.{width, farTap, capacity}
 use Rattle.line.proofs.ByMode.{mode-short, mode-long, by-all, width-range, far-kept}
 use Rattle.scrambler.specs.declared.Register.{Register}
 use Rattle.scrambler.specs.Bits.{bits, value}
-use Rattle.scrambler.specs.Register.{register, back, nearTap, push}
-use Rattle.scrambler.specs.Scramble.{mix, scramble, settled}
+use Rattle.scrambler.specs.Register.{back, nearTap, push}
+use Rattle.scrambler.specs.Scramble.{mix, scramble}
 use Rattle.scrambler.specs.Windows.{mixedAtOnce}
 use Rattle.scrambler.proofs.BitLaws.{bit, bit-small, bit-mod, bit-double, bit-shift, mod-suc-pow}
 

@@ -1,12 +1,12 @@
 -- Appends one by one. Assumes nothing.
 use mathlib.Core.Path.{_≡_, refl, sym, ap, ap₂, _∙_}
-use mathlib.Core.List.{List, [], _∷_, _++_, append-nil, append-assoc}
+use mathlib.Core.List.{List, [], _∷_, _++_}
 use Prim.Native.Nat.{ℕ, zero, suc}
 use Rattle.line.specs.Refusal.{accepted}
 use Rattle.store.specs.Layout.{Event}
 use Rattle.track.specs.Calls.{callNumber, callResult, after, taken}
 use Rattle.track.specs.Points.{pointEvents, pointsNumber, pointsResult}
-use Rattle.track.specs.CallLists.{Call, single, many, leaves, afterCalls, takenOf, takenCalls, singlesOf, singles, OneByOne}
+use Rattle.track.specs.CallLists.{Call, single, many, leaves, takenOf, singlesOf, singles, OneByOne}
 use Rattle.track.proofs.Runs.{all-taken}
 
 after-append : (s : List ℕ) (es fs : List Event) → after s (es ++ fs) ≡ after (after s es) fs

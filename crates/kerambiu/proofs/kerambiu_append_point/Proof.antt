@@ -2,9 +2,6 @@ use mir.Facts.{toZ-ofZ}
 use borrow.Author.Needs.{needs}
 use Rattle.kerambiu.proofs.kerambiu_append_point.Statement.{statement}
 use Rattle.kerambiu.proofs.kerambiu_append_point.Tie as tie
-use Rattle.kerambiu.proofs.kerambiu_append_point.Reads as reads
-use Rattle.kerambiu.proofs.kerambiu_append_point.Lts as lts
-use Rattle.track.proofs.append_point.Reads as append-point-reads
 
 append-point-requires : tie.Need-append-point-requires
 append-point-requires c κs = search needs

@@ -2,9 +2,6 @@ use mir.Facts.{toZ-ofZ}
 use borrow.Author.Needs.{needs}
 use Rattle.kerambiu.proofs.kerambiu_receive_point.Statement.{statement}
 use Rattle.kerambiu.proofs.kerambiu_receive_point.Tie as tie
-use Rattle.kerambiu.proofs.kerambiu_receive_point.Reads as reads
-use Rattle.kerambiu.proofs.kerambiu_receive_point.Lts as lts
-use Rattle.lent_receiver.proofs.receive_point.Reads as receive-point-reads
 
 receive-point-requires : tie.Need-receive-point-requires
 receive-point-requires c κs = search needs

@@ -2,8 +2,6 @@ use Rattle.line.proofs.Tests.{tests}
 use Rattle.lent_receiver.specs.Receiving.{atMost7}
 use Rattle.lent_receiver.proofs.at_most_7.Statement.{statement}
 use Rattle.lent_receiver.proofs.at_most_7.Tie as tie
-use Rattle.lent_receiver.proofs.at_most_7.Reads as reads
-use Rattle.lent_receiver.proofs.at_most_7.Lts as lts
 
 returns : tie.Need-returns
 unfolding atMost7

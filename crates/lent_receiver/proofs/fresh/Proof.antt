@@ -3,12 +3,6 @@ use Rattle.lent_receiver.proofs.Receivings.{fresh-short, fresh-refused,
 use borrow.Author.Needs.{needs}
 use Rattle.lent_receiver.proofs.fresh.Statement.{statement}
 use Rattle.lent_receiver.proofs.fresh.Tie as tie
-use Rattle.lent_receiver.proofs.fresh.Reads as reads
-use Rattle.lent_receiver.proofs.fresh.Lts as lts
-use Rattle.lent_receiver.proofs.put_receiver.Reads as put-receiver-reads
-use Rattle.line.proofs.mode_fault.Reads as mode-fault-reads
-use Rattle.line.proofs.or_next.Reads as or-next-reads
-use Rattle.receiver.proofs.fresh.Reads as fresh-reads
 
 mode-fault-requires : tie.Need-mode-fault-requires
 mode-fault-requires c κs = search needs

@@ -3,12 +3,6 @@ use Rattle.lent_receiver.proofs.Receivings.{handed-short, handed-refuse
 use borrow.Author.Needs.{needs}
 use Rattle.lent_receiver.proofs.hand_back.Statement.{statement}
 use Rattle.lent_receiver.proofs.hand_back.Tie as tie
-use Rattle.lent_receiver.proofs.hand_back.Reads as reads
-use Rattle.lent_receiver.proofs.hand_back.Lts as lts
-use Rattle.lent_receiver.proofs.at_most_7.Reads as at-most-7-reads
-use Rattle.lent_receiver.proofs.number_of.Reads as number-of-reads
-use Rattle.lent_receiver.proofs.put_answer.Reads as put-answer-reads
-use Rattle.lent_receiver.proofs.put_receiver.Reads as put-receiver-reads
 
 number-of-requires : tie.Need-number-of-requires
 number-of-requires c κs = search needs

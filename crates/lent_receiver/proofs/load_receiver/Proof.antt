@@ -2,10 +2,6 @@ use Rattle.lent_receiver.specs.Receiving.{receiverIn}
 use borrow.Author.Needs.{needs}
 use Rattle.lent_receiver.proofs.load_receiver.Statement.{statement}
 use Rattle.lent_receiver.proofs.load_receiver.Tie as tie
-use Rattle.lent_receiver.proofs.load_receiver.Reads as reads
-use Rattle.lent_receiver.proofs.load_receiver.Lts as lts
-use Rattle.lent_receiver.proofs.load_reference.Reads as load-reference-reads
-use Rattle.lent_receiver.proofs.word_at.Reads as word-at-reads
 
 load-reference-requires : tie.Need-load-reference-requires
 load-reference-requires c κs = search needs

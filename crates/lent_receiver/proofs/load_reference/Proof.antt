@@ -3,8 +3,6 @@ use Rattle.lent_receiver.proofs.Receivings.{read-state, read-none, read
 use borrow.Author.Needs.{needs}
 use Rattle.lent_receiver.proofs.load_reference.Statement.{statement}
 use Rattle.lent_receiver.proofs.load_reference.Tie as tie
-use Rattle.lent_receiver.proofs.load_reference.Reads as reads
-use Rattle.lent_receiver.proofs.load_reference.Lts as lts
 
 shared-slice-read-kind : tie.Need-shared-slice-read-kind
 shared-slice-read-kind c = search needs

@@ -5,8 +5,6 @@ use Rattle.lent_receiver.specs.Receiving.{answerBytes}
 use borrow.Author.Needs.{needs}
 use Rattle.lent_receiver.proofs.put_answer.Statement.{statement}
 use Rattle.lent_receiver.proofs.put_answer.Tie as tie
-use Rattle.lent_receiver.proofs.put_answer.Reads as reads
-use Rattle.lent_receiver.proofs.put_answer.Lts as lts
 
 slice-write-b : tie.Need-slice-write-b
 slice-write-b c = search needs

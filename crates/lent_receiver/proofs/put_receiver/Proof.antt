@@ -4,10 +4,6 @@ use Rattle.lent_receiver.proofs.Receivings.{put-law}
 use borrow.Author.Needs.{needs}
 use Rattle.lent_receiver.proofs.put_receiver.Statement.{statement}
 use Rattle.lent_receiver.proofs.put_receiver.Tie as tie
-use Rattle.lent_receiver.proofs.put_receiver.Reads as reads
-use Rattle.lent_receiver.proofs.put_receiver.Lts as lts
-use Rattle.lent_receiver.proofs.presence.Reads as presence-reads
-use Rattle.lent_receiver.proofs.state_byte.Reads as state-byte-reads
 
 slice-write-b : tie.Need-slice-write-b
 slice-write-b c = search needs

@@ -4,11 +4,6 @@ use denote.Ref.{now}
 use borrow.Author.Needs.{needs}
 use Rattle.lent_receiver.proofs.receive_gap.Statement.{statement}
 use Rattle.lent_receiver.proofs.receive_gap.Tie as tie
-use Rattle.lent_receiver.proofs.receive_gap.Reads as reads
-use Rattle.lent_receiver.proofs.receive_gap.Lts as lts
-use Rattle.lent_receiver.proofs.hand_back.Reads as hand-back-reads
-use Rattle.lent_receiver.proofs.load_receiver.Reads as load-receiver-reads
-use Rattle.receiver.proofs.receive_gap.Reads as receive-gap-reads
 
 returns : tie.Need-returns
 returns c = let a = c .before .before .before .args in call-short (now (a .state)) (now (a .answer)) (gap (a .n)) (c .if1 .taken)

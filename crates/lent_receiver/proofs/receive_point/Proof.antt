@@ -6,11 +6,6 @@ use Rattle.receiver.specs.Receiver.{point}
 use borrow.Author.Needs.{needs}
 use Rattle.lent_receiver.proofs.receive_point.Statement.{statement}
 use Rattle.lent_receiver.proofs.receive_point.Tie as tie
-use Rattle.lent_receiver.proofs.receive_point.Reads as reads
-use Rattle.lent_receiver.proofs.receive_point.Lts as lts
-use Rattle.lent_receiver.proofs.hand_back.Reads as hand-back-reads
-use Rattle.lent_receiver.proofs.load_receiver.Reads as load-receiver-reads
-use Rattle.receiver.proofs.receive_point.Reads as receive-point-reads
 
 returns : tie.Need-returns
 returns c = let a = c .before .before .before .args in call-short (now (a .state)) (now (a .answer)) (point (at (a .re) (a .im))) (c .if1 .taken)

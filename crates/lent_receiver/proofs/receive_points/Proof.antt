@@ -3,11 +3,6 @@ use Rattle.lent_receiver.proofs.Receivings.{block-short, block-refused,
 use borrow.Author.Needs.{needs}
 use Rattle.lent_receiver.proofs.receive_points.Statement.{statement}
 use Rattle.lent_receiver.proofs.receive_points.Tie as tie
-use Rattle.lent_receiver.proofs.receive_points.Reads as reads
-use Rattle.lent_receiver.proofs.receive_points.Lts as lts
-use Rattle.bulk.proofs.receive_points.Reads as receive-points-reads
-use Rattle.lent_receiver.proofs.load_receiver.Reads as load-receiver-reads
-use Rattle.lent_receiver.proofs.put_receiver.Reads as put-receiver-reads
 
 returns : tie.Need-returns
 returns c = let a = c .before .before .before .before .args in block-short (now (a .state)) (now (a .points)) (now (a .line)) (now (a .plain)) (c .if1 .taken)

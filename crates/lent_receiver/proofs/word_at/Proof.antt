@@ -3,9 +3,6 @@ use Rattle.lent_receiver.proofs.Receivings.{word-law}
 use borrow.Author.Needs.{needs}
 use Rattle.lent_receiver.proofs.word_at.Statement.{statement}
 use Rattle.lent_receiver.proofs.word_at.Tie as tie
-use Rattle.lent_receiver.proofs.word_at.Reads as reads
-use Rattle.lent_receiver.proofs.word_at.Lts as lts
-use Rattle.lent_receiver.proofs.wide.Reads as wide-reads
 
 shared-slice-read-wide : tie.Need-shared-slice-read-wide
 shared-slice-read-wide c = search needs

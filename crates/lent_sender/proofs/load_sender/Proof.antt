@@ -2,11 +2,6 @@ use Rattle.lent_sender.specs.Sending.{senderIn}
 use borrow.Author.Needs.{needs}
 use Rattle.lent_sender.proofs.load_sender.Statement.{statement}
 use Rattle.lent_sender.proofs.load_sender.Tie as tie
-use Rattle.lent_sender.proofs.load_sender.Reads as reads
-use Rattle.lent_sender.proofs.load_sender.Lts as lts
-use Rattle.lent_sender.proofs.byte_at.Reads as byte-at-reads
-use Rattle.lent_sender.proofs.load_sent_reference.Reads as load-sent-reference-reads
-use Rattle.octets.proofs.get32.Reads as get32-reads
 
 byte-at-requires : tie.Need-byte-at-requires
 byte-at-requires c κs = search needs

@@ -2,10 +2,6 @@ use Rattle.lent_sender.proofs.Sendings.{read-sent, read-unsent}
 use borrow.Author.Needs.{needs}
 use Rattle.lent_sender.proofs.load_sent_reference.Statement.{statement}
 use Rattle.lent_sender.proofs.load_sent_reference.Tie as tie
-use Rattle.lent_sender.proofs.load_sent_reference.Reads as reads
-use Rattle.lent_sender.proofs.load_sent_reference.Lts as lts
-use Rattle.lent_sender.proofs.byte_at.Reads as byte-at-reads
-use Rattle.octets.proofs.get32.Reads as get32-reads
 
 byte-at-requires : tie.Need-byte-at-requires
 byte-at-requires c κs = search needs

@@ -3,12 +3,6 @@ use denote.Ref.{now}
 use borrow.Author.Needs.{needs}
 use Rattle.lent_sender.proofs.open.Statement.{statement}
 use Rattle.lent_sender.proofs.open.Tie as tie
-use Rattle.lent_sender.proofs.open.Reads as reads
-use Rattle.lent_sender.proofs.open.Lts as lts
-use Rattle.lent_sender.proofs.put_sent.Reads as put-sent-reads
-use Rattle.line.proofs.or_next.Reads as or-next-reads
-use Rattle.sender.proofs.open.Reads as open-reads
-use Rattle.sender.proofs.open_refusal.Reads as open-refusal-reads
 
 open-refusal-requires : tie.Need-open-refusal-requires
 open-refusal-requires c κs = search needs

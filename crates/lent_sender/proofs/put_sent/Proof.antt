@@ -3,10 +3,6 @@ use denote.Ref.{now}
 use borrow.Author.Needs.{needs}
 use Rattle.lent_sender.proofs.put_sent.Statement.{statement}
 use Rattle.lent_sender.proofs.put_sent.Tie as tie
-use Rattle.lent_sender.proofs.put_sent.Reads as reads
-use Rattle.lent_sender.proofs.put_sent.Lts as lts
-use Rattle.lent_sender.proofs.sender_bytes.Reads as sender-bytes-reads
-use Rattle.octets.proofs.put_all.Reads as put-all-reads
 
 enum-known-sent : tie.Need-enum-known-sent
 enum-known-sent c = search needs

@@ -3,13 +3,6 @@ use denote.Ref.{now}
 use borrow.Author.Needs.{needs}
 use Rattle.lent_sender.proofs.send.Statement.{statement}
 use Rattle.lent_sender.proofs.send.Tie as tie
-use Rattle.lent_sender.proofs.send.Reads as reads
-use Rattle.lent_sender.proofs.send.Lts as lts
-use Rattle.lent_sender.proofs.load_sender.Reads as load-sender-reads
-use Rattle.lent_sender.proofs.put_sent.Reads as put-sent-reads
-use Rattle.line.proofs.need.Reads as need-reads
-use Rattle.sender.proofs.are_bits.Reads as are-bits-reads
-use Rattle.sender.proofs.send.Reads as send-reads
 
 are-bits-requires : tie.Need-are-bits-requires
 are-bits-requires c κs = search needs

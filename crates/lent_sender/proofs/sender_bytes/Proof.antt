@@ -3,8 +3,6 @@ use Rattle.lent_sender.specs.Sending.{senderOut}
 use borrow.Author.Needs.{needs}
 use Rattle.lent_sender.proofs.sender_bytes.Statement.{statement}
 use Rattle.lent_sender.proofs.sender_bytes.Tie as tie
-use Rattle.lent_sender.proofs.sender_bytes.Reads as reads
-use Rattle.lent_sender.proofs.sender_bytes.Lts as lts
 
 cast-t5 : tie.Need-cast-t5
 cast-t5 c = search needs

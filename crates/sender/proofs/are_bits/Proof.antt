@@ -8,8 +8,6 @@ use Rattle.scrambler.specs.Bits.{isBit}
 use Rattle.sender.proofs.RefusalLaws.{bits-go, bits-end}
 use Rattle.sender.proofs.are_bits.Statement.{statement}
 use Rattle.sender.proofs.are_bits.Tie as tie
-use Rattle.sender.proofs.are_bits.Reads as reads
-use Rattle.sender.proofs.are_bits.Lts as lts
 
 abbrev Inv-loop : tie.InvT-loop
 Inv-loop input all₀ i₀ all i = (i ≤ length input) × ((all && every isBit (drop i input)) ≡ every isBit input)

@@ -4,12 +4,6 @@ use Rattle.line.proofs.ByMode.{width-range}
 use borrow.Author.Needs.{needs}
 use Rattle.sender.proofs.data_refusal.Statement.{statement}
 use Rattle.sender.proofs.data_refusal.Tie as tie
-use Rattle.sender.proofs.data_refusal.Reads as reads
-use Rattle.sender.proofs.data_refusal.Lts as lts
-use Rattle.line.proofs.need.Reads as need-reads
-use Rattle.line.proofs.width_of.Reads as width-of-reads
-use Rattle.sender.proofs.are_bits.Reads as are-bits-reads
-use Rattle.sender.proofs.has_room.Reads as has-room-reads
 
 width-of-requires : tie.Need-width-of-requires
 width-of-requires c κs = search needs

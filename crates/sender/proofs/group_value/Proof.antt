@@ -3,8 +3,6 @@ use Rattle.sender.proofs.SendLaws.{bit-at, value-2, value-3, value-4}
 use borrow.Author.Needs.{needs}
 use Rattle.sender.proofs.group_value.Statement.{statement}
 use Rattle.sender.proofs.group_value.Tie as tie
-use Rattle.sender.proofs.group_value.Reads as reads
-use Rattle.sender.proofs.group_value.Lts as lts
 
 shared-slice-read-two : tie.Need-shared-slice-read-two
 shared-slice-read-two c = search needs

@@ -1,8 +1,6 @@
 use Rattle.sender.proofs.RefusalLaws.{past-end, room-left}
 use Rattle.sender.proofs.has_room.Statement.{statement}
 use Rattle.sender.proofs.has_room.Tie as tie
-use Rattle.sender.proofs.has_room.Reads as reads
-use Rattle.sender.proofs.has_room.Lts as lts
 
 returns : tie.Need-returns
 returns c = search past-end

@@ -2,8 +2,6 @@ use Rattle.sender.specs.Open.{lengthOk}
 use Rattle.line.proofs.Tests.{tests}
 use Rattle.sender.proofs.length_ok.Statement.{statement}
 use Rattle.sender.proofs.length_ok.Tie as tie
-use Rattle.sender.proofs.length_ok.Reads as reads
-use Rattle.sender.proofs.length_ok.Lts as lts
 
 returns : tie.Need-returns
 unfolding lengthOk

@@ -8,10 +8,6 @@ use Rattle.sender.proofs.AnswerLaws.{part-room, call-refused, call-done
 use borrow.Author.Needs.{needs}
 use Rattle.sender.proofs.open.Statement.{statement}
 use Rattle.sender.proofs.open.Tie as tie
-use Rattle.sender.proofs.open.Reads as reads
-use Rattle.sender.proofs.open.Lts as lts
-use Rattle.sender.proofs.open_refusal.Reads as open-refusal-reads
-use Rattle.sender.proofs.write_training.Reads as write-training-reads
 
 open-refusal-requires : tie.Need-open-refusal-requires
 open-refusal-requires c κs = search needs

@@ -2,14 +2,6 @@ use Rattle.sender.specs.Open.{openRefusal}
 use borrow.Author.Needs.{needs}
 use Rattle.sender.proofs.open_refusal.Statement.{statement}
 use Rattle.sender.proofs.open_refusal.Tie as tie
-use Rattle.sender.proofs.open_refusal.Reads as reads
-use Rattle.sender.proofs.open_refusal.Lts as lts
-use Rattle.line.proofs.mode_fault.Reads as mode-fault-reads
-use Rattle.line.proofs.need.Reads as need-reads
-use Rattle.line.proofs.or_next.Reads as or-next-reads
-use Rattle.sender.proofs.has_room.Reads as has-room-reads
-use Rattle.sender.proofs.length_ok.Reads as length-ok-reads
-use Rattle.training.proofs.interval_count.Reads as interval-count-reads
 
 interval-count-requires : tie.Need-interval-count-requires
 interval-count-requires c κs = search needs

@@ -7,10 +7,6 @@ use Rattle.sender.proofs.AnswerLaws.{part-room, call-refused, call-done
 use borrow.Author.Needs.{needs}
 use Rattle.sender.proofs.send.Statement.{statement}
 use Rattle.sender.proofs.send.Tie as tie
-use Rattle.sender.proofs.send.Reads as reads
-use Rattle.sender.proofs.send.Lts as lts
-use Rattle.sender.proofs.send_refusal.Reads as send-refusal-reads
-use Rattle.sender.proofs.write_points.Reads as write-points-reads
 
 send-refusal-requires : tie.Need-send-refusal-requires
 send-refusal-requires c κs = search needs

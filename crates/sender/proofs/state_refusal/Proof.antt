@@ -2,12 +2,6 @@ use Rattle.sender.specs.Sender.{stateRefusal}
 use borrow.Author.Needs.{needs}
 use Rattle.sender.proofs.state_refusal.Statement.{statement}
 use Rattle.sender.proofs.state_refusal.Tie as tie
-use Rattle.sender.proofs.state_refusal.Reads as reads
-use Rattle.sender.proofs.state_refusal.Lts as lts
-use Rattle.line.proofs.mode_fault.Reads as mode-fault-reads
-use Rattle.line.proofs.need.Reads as need-reads
-use Rattle.line.proofs.or_next.Reads as or-next-reads
-use Rattle.sender.proofs.fields_ok.Reads as fields-ok-reads
 
 mode-fault-requires : tie.Need-mode-fault-requires
 mode-fault-requires c κs = search needs

@@ -10,12 +10,6 @@ use Rattle.line.proofs.ByMode.{width-range}
 use Rattle.sender.proofs.SendLaws.{Left, left-all, group-bits, group-there, left-less, looked-up, sent-all, wrote-all}
 use Rattle.sender.proofs.write_points.Statement.{statement}
 use Rattle.sender.proofs.write_points.Tie as tie
-use Rattle.sender.proofs.write_points.Reads as reads
-use Rattle.sender.proofs.write_points.Lts as lts
-use Rattle.line.proofs.constellation.Reads as constellation-reads
-use Rattle.line.proofs.width_of.Reads as width-of-reads
-use Rattle.sender.proofs.group_value.Reads as group-value-reads
-use Rattle.sender.proofs.send_group.Reads as send-group-reads
 
 abbrev Inv-loop : tie.InvT-loop
 Inv-loop input out₀ mode w points t₀ at₀ k₀ left₀ out t at k left = Left mode w input t₀ left₀ out₀ t out at k left

@@ -9,13 +9,6 @@ use Rattle.training.specs.Ahead.{ahead}
 use Rattle.sender.proofs.OpenLaws.{TrainingLeft, all-training, less-training, written-training}
 use Rattle.sender.proofs.write_training.Statement.{statement}
 use Rattle.sender.proofs.write_training.Tie as tie
-use Rattle.sender.proofs.write_training.Reads as reads
-use Rattle.sender.proofs.write_training.Lts as lts
-use Rattle.line.proofs.sent_point.Reads as sent-point-reads
-use Rattle.training.proofs.interval_count.Reads as interval-count-reads
-use Rattle.training.proofs.middle_changes.Reads as middle-changes-reads
-use Rattle.training.proofs.train_interval.Reads as train-interval-reads
-use Rattle.training.proofs.training_start.Reads as training-start-reads
 
 abbrev Inv-loop : tie.InvT-loop
 Inv-loop mode role length out₀ t n c₀ i₀ out c i = TrainingLeft (ahead t mode role length) mode n c₀ out₀ c out i

@@ -2,8 +2,6 @@ use Rattle.training.specs.Training.{changes}
 use Rattle.line.proofs.Tests.{tests}
 use Rattle.training.proofs.change_count.Statement.{statement}
 use Rattle.training.proofs.change_count.Tie as tie
-use Rattle.training.proofs.change_count.Reads as reads
-use Rattle.training.proofs.change_count.Lts as lts
 
 returns : tie.Need-returns
 unfolding changes

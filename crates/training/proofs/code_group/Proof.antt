@@ -2,10 +2,6 @@ use Rattle.training.proofs.CoderLaws.{code-law}
 use borrow.Author.Needs.{needs}
 use Rattle.training.proofs.code_group.Statement.{statement}
 use Rattle.training.proofs.code_group.Tie as tie
-use Rattle.training.proofs.code_group.Reads as reads
-use Rattle.training.proofs.code_group.Lts as lts
-use Rattle.coding.proofs.next_state.Reads as next-state-reads
-use Rattle.scrambler.proofs.scramble_group.Reads as scramble-group-reads
 
 scramble-group-requires : tie.Need-scramble-group-requires
 scramble-group-requires c κs = search needs

@@ -2,8 +2,6 @@ use Rattle.training.proofs.TrainingLaws.{dibit-first, dibit-later}
 use borrow.Author.Needs.{needs}
 use Rattle.training.proofs.dibit_state.Statement.{statement}
 use Rattle.training.proofs.dibit_state.Tie as tie
-use Rattle.training.proofs.dibit_state.Reads as reads
-use Rattle.training.proofs.dibit_state.Lts as lts
 
 mul-result : tie.Need-mul-result
 mul-result c = search needs

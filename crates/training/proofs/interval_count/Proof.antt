@@ -2,10 +2,6 @@ use Rattle.training.proofs.TrainingLaws.{intervals-short, intervals-lon
 use borrow.Author.Needs.{needs}
 use Rattle.training.proofs.interval_count.Statement.{statement}
 use Rattle.training.proofs.interval_count.Tie as tie
-use Rattle.training.proofs.interval_count.Reads as reads
-use Rattle.training.proofs.interval_count.Lts as lts
-use Rattle.training.proofs.change_count.Reads as change-count-reads
-use Rattle.training.proofs.reversal_count.Reads as reversal-count-reads
 
 reversal-count-requires : tie.Need-reversal-count-requires
 reversal-count-requires c κs = search needs

@@ -5,8 +5,6 @@ use Rattle.line.specs.Mode.{farTap, capacity}
 use Rattle.training.proofs.MiddleLaws.{table-rule}
 use Rattle.training.proofs.middle_changes.Statement.{statement}
 use Rattle.training.proofs.middle_changes.Tie as tie
-use Rattle.training.proofs.middle_changes.Reads as reads
-use Rattle.training.proofs.middle_changes.Lts as lts
 
 returns : tie.Need-returns
 unfolding capacity farTap back nearTap push mix

@@ -3,10 +3,6 @@ use Rattle.line.proofs.Tests.{tests}
 use borrow.Author.Needs.{needs}
 use Rattle.training.proofs.train_interval.Statement.{statement}
 use Rattle.training.proofs.train_interval.Tie as tie
-use Rattle.training.proofs.train_interval.Reads as reads
-use Rattle.training.proofs.train_interval.Lts as lts
-use Rattle.training.proofs.train_v27.Reads as train-v27-reads
-use Rattle.training.proofs.train_v32.Reads as train-v32-reads
 
 train-v27-requires : tie.Need-train-v27-requires
 train-v27-requires c κs = search needs

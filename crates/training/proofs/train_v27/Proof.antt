@@ -2,12 +2,6 @@ use Rattle.training.proofs.AheadLaws.{reversal-27, change-27, ones-27}
 use borrow.Author.Needs.{needs}
 use Rattle.training.proofs.train_v27.Statement.{statement}
 use Rattle.training.proofs.train_v27.Tie as tie
-use Rattle.training.proofs.train_v27.Reads as reads
-use Rattle.training.proofs.train_v27.Lts as lts
-use Rattle.training.proofs.change_count.Reads as change-count-reads
-use Rattle.training.proofs.code_group.Reads as code-group-reads
-use Rattle.training.proofs.half_turns.Reads as half-turns-reads
-use Rattle.training.proofs.reversal_count.Reads as reversal-count-reads
 
 reversal-count-requires : tie.Need-reversal-count-requires
 reversal-count-requires c κs = search needs

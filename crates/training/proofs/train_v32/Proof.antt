@@ -3,10 +3,6 @@ use Rattle.training.proofs.TrainingLaws.{first-32, second-32, third-32}
 use borrow.Author.Needs.{needs}
 use Rattle.training.proofs.train_v32.Statement.{statement}
 use Rattle.training.proofs.train_v32.Tie as tie
-use Rattle.training.proofs.train_v32.Reads as reads
-use Rattle.training.proofs.train_v32.Lts as lts
-use Rattle.scrambler.proofs.scramble_group.Reads as scramble-group-reads
-use Rattle.training.proofs.dibit_state.Reads as dibit-state-reads
 
 cast-odd : tie.Need-cast-odd
 cast-odd c = search needs

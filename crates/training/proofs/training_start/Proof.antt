@@ -2,8 +2,6 @@ use Rattle.training.specs.Ahead.{aheadStart}
 use Rattle.line.proofs.Tests.{tests}
 use Rattle.training.proofs.training_start.Statement.{statement}
 use Rattle.training.proofs.training_start.Tie as tie
-use Rattle.training.proofs.training_start.Reads as reads
-use Rattle.training.proofs.training_start.Lts as lts
 
 returns : tie.Need-returns
 unfolding aheadStart
