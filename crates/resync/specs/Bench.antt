@@ -4,6 +4,7 @@ use mathlib.Core.List.{List, [], _∷_}
 use Prim.Native.Nat.{ℕ}
 use lib.IntN.{ℤ, pos, negsuc}
 use Rattle.deciding.specs.declared.Decision.the-variants.{State}
+use Rattle.line.specs.Table.{All}
 use Rattle.line.specs.Mode.{face}
 use Rattle.line.specs.Point.{at}
 use Rattle.deciding.specs.Decide.{decide}
@@ -21,8 +22,7 @@ abbrev pub row : ℕ → ℤ → ℤ → ℕ → Decided
 row m x y s = record { mode = m; re = x; im = y; state = s }
 
 abbrev pub AllDecided : List Decided → Type 0
-AllDecided [] = Unit {0}
-AllDecided (p ∷ ps) = (decide (p .mode) (at (p .re) (p .im)) ≡ State (p .state)) × AllDecided ps
+AllDecided ps = All (λ (p : Decided). decide (p .mode) (at (p .re) (p .im)) ≡ State (p .state)) ps
 
 -- every statement of a list holds
 abbrev pub AllHold : List (Type 0) → Type 0
