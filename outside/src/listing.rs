@@ -1,4 +1,4 @@
-//! The listing of a store (document 01, "Listing program").
+//! The listing of a store (document 01, "Listing program"). It has no distances.
 
 use crate::mode::Mode;
 use crate::receiver::{self, Answer, Receiver};
@@ -44,7 +44,7 @@ fn receive(state: Receiver, event: Event) -> Result<(Answer, Receiver), Refusal>
 /// a gap of one.
 fn push_answer(text: &mut String, answer: Answer, width: u32) {
     match answer {
-        Answer::Reference => text.push_str(" ref"),
+        Answer::Reference { .. } => text.push_str(" ref"),
         Answer::Gap(length) => {
             text.push_str(" lost ");
             text.push_str(&length.0.to_string());
@@ -53,6 +53,7 @@ fn push_answer(text: &mut String, answer: Answer, width: u32) {
             line,
             plain,
             settled,
+            ..
         } => {
             text.push_str(" bits ");
             push_bits(text, line, u8::MAX, width);

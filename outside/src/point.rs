@@ -1,7 +1,8 @@
 //! Sent points, turns, and deciding a received point (document 01, "Modes,
-//! states, turns" and "Deciding a point").
+//! states, turns" and "Deciding a point"; document 02, R-1).
 
 use crate::mode::{Line, Mode, C};
+use crate::units::SquaredUnits;
 
 /// A received or sent point, 1024 to one level.
 #[derive(Clone, Copy, PartialEq, Eq, Hash, Debug)]
@@ -99,6 +100,16 @@ pub fn sent(mode: &Mode, state: u8) -> Point {
     }
 }
 
+/// The squared distance from a received point to the point at which a state is
+/// sent. It fits any pair of numbers, in range or not: no coordinate of a sent
+/// point is greater than 4096, so that none is more than 36864 apart.
+pub fn distance(mode: &Mode, state: u8, received: Point) -> SquaredUnits {
+    let sent = sent(mode, state);
+    let squared = |x: i16, y: i16| (i64::from(x) - i64::from(y)).pow(2);
+    let sum = squared(received.re, sent.re) + squared(received.im, sent.im);
+    SquaredUnits(sum as u32)
+}
+
 /// The state after one step of the mode.
 pub fn turn_state(mode: &Mode, state: u8) -> u8 {
     match mode.line {
@@ -120,7 +131,10 @@ fn turn_state_by_quarters(mode: &Mode, state: u8, quarters: usize) -> u8 {
 pub enum Decision {
     /// The origin: a gap of one interval.
     Origin,
-    State(u8),
+    /// A state, and how far the point lies from its sent point. In mode 2 that
+    /// is not always the nearest one: its edges are directions, and odd states
+    /// are sent a little nearer the origin.
+    State { state: u8, distance: SquaredUnits },
     /// A mode 2 point off the origin in none of the eight sectors.
     NoSector,
 }
@@ -130,20 +144,26 @@ pub enum Decision {
 /// The rules are given for one region of the plane; its turns by 90° make up
 /// the rest. So the point is turned back into that region, and the state found
 /// there is turned forth as often.
+// In line, so that state and distance are not joined into one word to be handed
+// back and taken apart again.
+#[inline(always)]
 pub fn decide(mode: &Mode, re: i16, im: i16) -> Decision {
     if re == 0 && im == 0 {
         return Decision::Origin;
     }
+    let received = Point { re, im };
     let (re, im) = (i64::from(re), i64::from(im));
     // Just one of the four turns is in the first region. Testing all of them
     // takes no branch that depends on the point.
     let in_first = |re, im| usize::from(in_first_region(mode, re, im));
     let quarters = in_first(im, -re) + 2 * in_first(-re, -im) + 3 * in_first(-im, re);
     let (re, im) = [(re, im), (im, -re), (-re, -im), (-im, re)][quarters % 4];
-    match state_in_first_region(mode, re, im) {
-        Some(state) => Decision::State(turn_state_by_quarters(mode, state, quarters)),
-        None => Decision::NoSector,
-    }
+    let Some(state) = state_in_first_region(mode, re, im) else {
+        return Decision::NoSector;
+    };
+    let state = turn_state_by_quarters(mode, state, quarters);
+    let distance = distance(mode, state, received);
+    Decision::State { state, distance }
 }
 
 /// Whether a point is in the region that the mode's rule is given for.

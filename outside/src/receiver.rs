@@ -1,11 +1,11 @@
-//! The receiver (document 01, "Receiver").
+//! The receiver (document 01, "Receiver"; document 02, R-1).
 
 use crate::code;
 use crate::mode::Mode;
 use crate::point::{self, Decision, Point};
 use crate::refusal::{need, Refusal};
 use crate::scrambler::Scrambler;
-use crate::units::{BitCount, UnitIntervals};
+use crate::units::{BitCount, SquaredUnits, UnitIntervals};
 
 /// A receiver's state. The fields hold any value; numbers 1, 2 and 4 refuse
 /// those out of range.
@@ -24,15 +24,21 @@ pub struct Receiver {
     pub place: UnitIntervals,
 }
 
-/// The answer to an accepted event.
+/// The answer to an accepted event. That to a decided point has the distance
+/// from the sent point of its state.
 #[derive(Clone, Copy, PartialEq, Eq, Debug)]
 pub enum Answer {
     /// The point became the reference; it carries no bits.
-    Reference,
+    Reference { distance: SquaredUnits },
     /// w line bits and their data bits, the first in time highest. A bit of
     /// `settled` is 1 where the data bit is settled; an unsettled one is 0 in
     /// `plain`.
-    Bits { line: u8, plain: u8, settled: u8 },
+    Bits {
+        line: u8,
+        plain: u8,
+        settled: u8,
+        distance: SquaredUnits,
+    },
     /// A gap and its length.
     Gap(UnitIntervals),
 }
@@ -58,7 +64,10 @@ pub fn receive_point(state: Receiver, re: i16, im: i16) -> Result<(Answer, Recei
     match point::decide(mode, re, im) {
         Decision::NoSector => Err(Refusal::NO_SECTOR),
         Decision::Origin => pass_gap(state, UnitIntervals(1)),
-        Decision::State(decided) => take_state(state, mode, scrambler, decided),
+        Decision::State {
+            state: decided,
+            distance,
+        } => take_state(state, mode, scrambler, decided, distance),
     }
 }
 
@@ -101,6 +110,7 @@ fn take_state(
     mode: &Mode,
     scrambler: Scrambler,
     decided: u8,
+    distance: SquaredUnits,
 ) -> Result<(Answer, Receiver), Refusal> {
     let place = state.place.plus(UnitIntervals(1));
     let mut next = Receiver {
@@ -109,7 +119,7 @@ fn take_state(
         ..state
     };
     let Some(reference) = state.reference else {
-        return Ok((Answer::Reference, next));
+        return Ok((Answer::Reference { distance }, next));
     };
     let line = code::group(mode, reference, decided);
     let (mut plain, mut settled) = (0, 0);
@@ -124,6 +134,7 @@ fn take_state(
         line,
         plain,
         settled,
+        distance,
     };
     Ok((answer, next))
 }
@@ -133,47 +144,56 @@ fn take_state(
 pub const REFERENCE_BYTE: u8 = 16;
 pub const GAP_BYTE: u8 = 17;
 
-/// Takes points, re and im in turn, all or none. For each a byte of line bits
-/// and a byte of data bits is written, the latter with 16 times the count of
-/// unsettled ones added. Refuses by 1, 2, 4, 7, 8, 10 and 16.
+/// Takes points, re and im in turn, all or none. For each a byte of line bits,
+/// a byte of data bits with 16 times the count of unsettled ones added, and the
+/// distance, 0 for a point at the origin, are written. Refuses by 1, 2, 4, 7, 8,
+/// 10 and 16.
 pub fn receive_points(
     state: Receiver,
     points: &[i16],
     line: &mut [u8],
     plain: &mut [u8],
+    distance: &mut [u32],
 ) -> Result<Receiver, Refusal> {
     let (mode, scrambler) = checked(&state)?;
     let count = points.len() / 2;
-    let lent = points.len().is_multiple_of(2) && line.len() >= count && plain.len() >= count;
-    need(lent, Refusal::LENT_NUMBERS)?;
+    let lent = line.len().min(plain.len()).min(distance.len());
+    let fits = points.len().is_multiple_of(2) && lent >= count;
+    need(fits, Refusal::LENT_NUMBERS)?;
     let in_range = |x: &i16| (-16384..=16384).contains(x);
     need(points.iter().all(in_range), Refusal::COORDINATE)?;
     let left = (u32::MAX - state.place.0) as usize;
     need(count <= left, Refusal::TOO_LONG)?;
     let mut next = state;
-    let bytes = line.iter_mut().zip(plain.iter_mut());
-    for (pair, (line, plain)) in points.chunks_exact(2).zip(bytes) {
+    let numbers = line.iter_mut().zip(plain.iter_mut()).zip(distance);
+    for (pair, ((line, plain), distance)) in points.chunks_exact(2).zip(numbers) {
         let (answer, after) = match point::decide(mode, pair[0], pair[1]) {
-            Decision::State(decided) => take_state(next, mode, scrambler, decided)?,
+            Decision::State { state, distance } => {
+                take_state(next, mode, scrambler, state, distance)?
+            }
             Decision::Origin => pass_gap(next, UnitIntervals(1))?,
             // No square is twice a square, so no whole numbers come here.
             Decision::NoSector => return Err(Refusal::NO_SECTOR),
         };
-        (*line, *plain) = block_bytes(mode.width, answer);
+        (*line, *plain, *distance) = block_numbers(mode.width, answer);
         next = after;
     }
     Ok(next)
 }
 
-/// The bytes of a point in a block: its line bits, then its data bits.
-pub fn block_bytes(width: u32, answer: Answer) -> (u8, u8) {
+/// What a block has for a point: its line bits, its data bits, its distance.
+pub fn block_numbers(width: u32, answer: Answer) -> (u8, u8, u32) {
     match answer {
-        Answer::Reference => (REFERENCE_BYTE, 0),
-        Answer::Gap(_) => (GAP_BYTE, 0),
+        Answer::Reference { distance } => (REFERENCE_BYTE, 0, distance.0),
+        Answer::Gap(_) => (GAP_BYTE, 0, 0),
         Answer::Bits {
             line,
             plain,
             settled,
-        } => (line, plain + 16 * (width - settled.count_ones()) as u8),
+            distance,
+        } => {
+            let unsettled = (width - settled.count_ones()) as u8;
+            (line, plain + 16 * unsettled, distance.0)
+        }
     }
 }

@@ -1,4 +1,4 @@
-//! Two kinds of count that are never taken for each other (document 01,
+//! Kinds of number that are never taken for each other (document 01,
 //! "Receiver": a place in unit intervals is never taken for a count of bits).
 
 /// A number of unit intervals: a place on the track, or the length of a gap.
@@ -16,3 +16,8 @@ impl UnitIntervals {
 /// state can hold a count out of range.
 #[derive(Clone, Copy, PartialEq, Eq, PartialOrd, Ord, Hash, Debug)]
 pub struct BitCount(pub u32);
+
+/// A squared distance between two points, in units of which 1024 are one level
+/// (document 02, R-1). It is no count of intervals or of bits.
+#[derive(Clone, Copy, PartialEq, Eq, PartialOrd, Ord, Hash, Debug)]
+pub struct SquaredUnits(pub u32);

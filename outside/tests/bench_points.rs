@@ -12,7 +12,7 @@ fn mode(number: u8) -> &'static Mode {
 
 fn state(number: u8, re: i16, im: i16) -> u8 {
     match decide(mode(number), re, im) {
-        Decision::State(state) => state,
+        Decision::State { state, .. } => state,
         other => panic!("{other:?}"),
     }
 }

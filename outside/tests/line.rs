@@ -1,16 +1,31 @@
 //! Turns, decided points and the differential code.
 
 use outside::code;
-use outside::mode::{Line, MODES};
+use outside::mode::{Line, Mode, MODES};
 use outside::point::{decide, sent, turn_state, Decision, Point};
 use outside::rng::Rng;
+use outside::units::SquaredUnits;
+
+/// The decided state of a point and its distance, unless it is the origin.
+fn decided(mode: &Mode, re: i16, im: i16) -> Option<(u8, i64)> {
+    match decide(mode, re, im) {
+        Decision::State { state, distance } => Some((state, i64::from(distance.0))),
+        _ => None,
+    }
+}
+
+fn squared_distance(sent: Point, re: i16, im: i16) -> i64 {
+    let apart = |x: i16, y: i16| i64::from(x) - i64::from(y);
+    apart(re, sent.re).pow(2) + apart(im, sent.im).pow(2)
+}
 
 #[test]
 fn a_sent_point_is_decided_as_its_state() {
     for mode in &MODES {
         for &state in mode.states {
             let Point { re, im } = sent(mode, state);
-            assert_eq!(decide(mode, re, im), Decision::State(state));
+            let distance = SquaredUnits(0);
+            assert_eq!(decide(mode, re, im), Decision::State { state, distance });
         }
     }
 }
@@ -41,7 +56,10 @@ fn a_turn_by_90_degrees_turns_the_decided_state() {
         for re in edges {
             for im in edges {
                 let expected = match decide(mode, re, im) {
-                    Decision::State(state) => Decision::State(quarter(state)),
+                    Decision::State { state, distance } => Decision::State {
+                        state: quarter(state),
+                        distance,
+                    },
                     other => other,
                 };
                 assert_eq!(decide(mode, -im, re), expected);
@@ -58,7 +76,7 @@ fn only_the_origin_is_no_state() {
         for _ in 0..100_000 {
             let number = rng.next_u64();
             let (re, im) = (number as i16, (number >> 16) as i16);
-            if let Decision::State(state) = decide(mode, re, im) {
+            if let Some((state, _)) = decided(mode, re, im) {
                 assert!(mode.has_state(state));
             } else {
                 assert_eq!((re, im), (0, 0));
@@ -82,8 +100,9 @@ fn phase_decisions_agree_with_angles() {
                 let apart = (angle - direction).rem_euclid(360.0);
                 apart.min(360.0 - apart) < within
             });
-            if let Some(state) = near {
-                assert_eq!(decide(mode, re, im), Decision::State(state));
+            if near.is_some() {
+                let decided = decided(mode, re, im).map(|(state, _)| state);
+                assert_eq!(decided, near);
             }
         }
     }
@@ -99,13 +118,58 @@ fn level_decisions_are_the_nearest_point() {
         if [re, im].iter().any(|v| v % 2048 == 0) {
             continue;
         }
-        let distance = |state: u8| {
-            let Point { re: x, im: y } = sent(mode, state);
-            (re - i64::from(x)).pow(2) + (im - i64::from(y)).pow(2)
-        };
+        let (re, im) = (re as i16, im as i16);
+        let distance = |state: u8| squared_distance(sent(mode, state), re, im);
         let nearest = (0..16).min_by_key(|&state| distance(state)).unwrap();
-        let decided = decide(mode, re as i16, im as i16);
-        assert_eq!(decided, Decision::State(nearest));
+        assert_eq!(decided(mode, re, im), Some((nearest, distance(nearest))));
+    }
+}
+
+#[test]
+fn the_distance_is_that_to_the_decided_sent_point() {
+    let mut rng = Rng::new(4);
+    for mode in &MODES {
+        for _ in 0..100_000 {
+            let number = rng.next_u64();
+            let (re, im) = (number as i16, (number >> 16) as i16);
+            if let Some((state, distance)) = decided(mode, re, im) {
+                assert_eq!(distance, squared_distance(sent(mode, state), re, im));
+            }
+        }
+    }
+}
+
+/// Mode 2's edges are directions, and odd states are sent a little nearer the
+/// origin: about it their points are nearer.
+#[test]
+fn the_decided_sent_point_need_not_be_the_nearest() {
+    let mode = &MODES[1];
+    assert_eq!(decided(mode, 1, 0), Some((0, 16_769_025)));
+    assert_eq!(squared_distance(sent(mode, 1), 1, 0), 16_767_841);
+}
+
+#[test]
+fn distances_of_points_in_range_and_beyond() {
+    assert_eq!(decided(&MODES[0], 16384, 16384), Some((0, 419_430_400)));
+    // 13312 from level 3 in either coordinate.
+    let both = 2 * 13312 * 13312;
+    assert_eq!(decided(&MODES[3], 16384, -16384), Some((0b0111, both)));
+    // The furthest of any pair of numbers: 28672² + 32768².
+    let most = 28672 * 28672 + 32768 * 32768;
+    assert_eq!(decided(&MODES[0], i16::MIN, i16::MIN), Some((4, most)));
+}
+
+/// Over a grid and all along the border of the range.
+#[test]
+fn no_point_in_range_is_further_than_419430400() {
+    let grid = || (-16384..=16384).step_by(128);
+    let inside = grid().flat_map(|re| grid().map(move |im| (re, im)));
+    let border = (-16384..=16384).flat_map(|x| [(16384, x), (-16384, x), (x, 16384), (x, -16384)]);
+    for (re, im) in inside.chain(border) {
+        for mode in &MODES {
+            let distance = decided(mode, re, im).map_or(0, |(_, distance)| distance);
+            assert!(distance <= 419_430_400, "{re} {im}");
+        }
     }
 }
 

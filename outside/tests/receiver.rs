@@ -2,13 +2,19 @@
 
 use outside::receiver::{fresh, receive_gap, receive_point, receive_points, Answer, Receiver};
 use outside::refusal::Refusal;
-use outside::units::{BitCount, UnitIntervals};
+use outside::units::{BitCount, SquaredUnits, UnitIntervals};
+
+/// The answers to a sent point, which has the distance 0.
+const REFERENCE: Answer = Answer::Reference {
+    distance: SquaredUnits(0),
+};
 
 fn bits(line: u8, plain: u8, settled: u8) -> Answer {
     Answer::Bits {
         line,
         plain,
         settled,
+        distance: SquaredUnits(0),
     }
 }
 
@@ -21,14 +27,14 @@ fn point(state: &mut Receiver, re: i16, im: i16) -> Answer {
 #[test]
 fn the_example_track_of_document_01() {
     let mut state = fresh(1, 0).unwrap();
-    assert_eq!(point(&mut state, 4096, 0), Answer::Reference);
+    assert_eq!(point(&mut state, 4096, 0), REFERENCE);
     assert_eq!(point(&mut state, 0, 4096), bits(0b01, 0, 0));
     assert_eq!(state.held, BitCount(2));
     let (answer, next) = receive_gap(state, 3).unwrap();
     assert_eq!(answer, Answer::Gap(UnitIntervals(3)));
     state = next;
     assert_eq!(state.place, UnitIntervals(5));
-    assert_eq!(point(&mut state, -4096, 0), Answer::Reference);
+    assert_eq!(point(&mut state, -4096, 0), REFERENCE);
     assert_eq!(state.place, UnitIntervals(6));
 }
 
@@ -63,7 +69,7 @@ fn the_origin_is_a_gap_of_one() {
         ..fresh(4, 1).unwrap()
     };
     assert_eq!(state, forgotten);
-    assert_eq!(point(&mut state, 1024, 1024), Answer::Reference);
+    assert_eq!(point(&mut state, 1024, 1024), REFERENCE);
 }
 
 #[test]
@@ -195,11 +201,12 @@ fn fresh_refuses_by_1_and_2() {
 #[test]
 fn a_block_is_the_single_calls() {
     let start = fresh(1, 0).unwrap();
-    let points = [4096, 0, 0, 4096, 0, 0, -4096, 0, 0, -4096];
-    let (mut line, mut plain) = ([9; 6], [9; 6]);
-    let next = receive_points(start, &points, &mut line, &mut plain).unwrap();
+    let points = [4096, 0, 3, 4100, 0, 0, -4092, 3, 0, -4095];
+    let (mut line, mut plain, mut distance) = ([9; 6], [9; 6], [9; 6]);
+    let next = receive_points(start, &points, &mut line, &mut plain, &mut distance).unwrap();
     assert_eq!(line, [16, 0b01, 17, 16, 0b01, 9]);
     assert_eq!(plain, [0, 32, 0, 0, 32, 9]);
+    assert_eq!(distance, [0, 25, 0, 3 * 3 + 4 * 4, 1, 9]);
     let mut state = start;
     for pair in points.chunks(2) {
         point(&mut state, pair[0], pair[1]);
@@ -210,10 +217,10 @@ fn a_block_is_the_single_calls() {
 #[test]
 fn a_block_is_taken_whole_or_not_at_all() {
     let mut start = fresh(1, 0).unwrap();
-    let (mut line, mut plain) = ([9; 2], [9; 2]);
+    let (mut line, mut plain, mut distance) = ([9; 2], [9; 2], [9; 2]);
     let mut refused = |state, points: &[i16]| {
-        let told = receive_points(state, points, &mut line, &mut plain);
-        assert_eq!((line, plain), ([9; 2], [9; 2]));
+        let told = receive_points(state, points, &mut line, &mut plain, &mut distance);
+        assert_eq!((line, plain, distance), ([9; 2], [9; 2], [9; 2]));
         told
     };
     assert_eq!(refused(start, &[1, 0, 0]), Err(Refusal(7)));
@@ -224,4 +231,39 @@ fn a_block_is_taken_whole_or_not_at_all() {
     assert_eq!(refused(start, &[1, 0, -16385, 1]), Err(Refusal(8)));
     start.mode = 5;
     assert_eq!(refused(start, &[]), Err(Refusal(1)));
+}
+
+#[test]
+fn each_lent_part_alone_can_be_too_short() {
+    let start = fresh(1, 0).unwrap();
+    for short in 0..3 {
+        let size = |part| if part == short { 1 } else { 2 };
+        let (mut line, mut plain) = (vec![9; size(0)], vec![9; size(1)]);
+        let mut distance = vec![9; size(2)];
+        let told = receive_points(start, &[1, 0, 0, 1], &mut line, &mut plain, &mut distance);
+        assert_eq!(told, Err(Refusal(7)));
+        assert!(line.iter().chain(&plain).all(|&byte| byte == 9));
+        assert!(distance.iter().all(|&number| number == 9));
+    }
+}
+
+#[test]
+fn answers_to_decided_points_have_a_distance() {
+    let mut state = fresh(4, 0).unwrap();
+    let distance = |answer| match answer {
+        Answer::Reference { distance } | Answer::Bits { distance, .. } => Some(distance.0),
+        Answer::Gap(_) => None,
+    };
+    // Sent at (1024, 1024), (3072, -1024) and (1024, 1024).
+    assert_eq!(
+        distance(point(&mut state, 1000, 1031)),
+        Some(24 * 24 + 7 * 7)
+    );
+    assert_eq!(distance(point(&mut state, 3072, 0)), Some(1024 * 1024));
+    assert_eq!(distance(point(&mut state, 0, 0)), None);
+    let (answer, mut state) = receive_gap(state, 3).unwrap();
+    assert_eq!(distance(answer), None);
+    let again = point(&mut state, 1024, 1025);
+    let one = SquaredUnits(1);
+    assert_eq!(again, Answer::Reference { distance: one });
 }

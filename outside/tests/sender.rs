@@ -41,6 +41,7 @@ fn received(mode: u8, role: u8, points: &[i16]) -> Vec<(u8, Option<u8>)> {
             line,
             plain,
             settled,
+            ..
         } = answer
         {
             bits.extend((0..width).rev().map(|k| {
@@ -100,7 +101,8 @@ fn a_turned_line_gives_the_same_bits() {
         send(state, &data, &mut out, 0).unwrap();
         let mut turned = Vec::new();
         for numbers in out.chunks(2) {
-            let Decision::State(state) = point::decide(parameters, numbers[0], numbers[1]) else {
+            let decided = point::decide(parameters, numbers[0], numbers[1]);
+            let Decision::State { state, .. } = decided else {
                 panic!("{numbers:?}");
             };
             let Point { re, im } = point::sent(parameters, turn_state(parameters, state));

@@ -8,31 +8,43 @@ use outside::rng::Rng;
 use outside::tuned;
 use outside::units::{BitCount, UnitIntervals};
 
-/// Bytes beyond what a call writes, to show what it leaves.
+/// Bytes and numbers beyond what a call writes, to show what it leaves.
 const UNWRITTEN: u8 = 0xa5;
+const UNWRITTEN_DISTANCE: u32 = 0xa5a5_a5a5;
 
-/// Receives plainly and tuned, in both ways, into so many lent bytes; gives what
-/// all gave.
-fn receive(state: Receiver, points: &[i16], lent: (usize, usize)) -> Result<Receiver, Refusal> {
-    let unwritten = (vec![UNWRITTEN; lent.0], vec![UNWRITTEN; lent.1]);
-    let (mut right_line, mut right_plain) = unwritten.clone();
-    let right = receiver::receive_points(state, points, &mut right_line, &mut right_plain);
+/// The lent bytes of line bits and of data bits, and the lent distances.
+type Lent = (Vec<u8>, Vec<u8>, Vec<u32>);
+
+/// Receives plainly and tuned, in both ways, into so many lent bytes and
+/// distances; gives what all gave.
+fn receive(
+    state: Receiver,
+    points: &[i16],
+    lent: (usize, usize, usize),
+) -> Result<Receiver, Refusal> {
+    let unwritten = || -> Lent {
+        let distance = vec![UNWRITTEN_DISTANCE; lent.2];
+        (vec![UNWRITTEN; lent.0], vec![UNWRITTEN; lent.1], distance)
+    };
+    let mut right = unwritten();
+    let (line, plain, distance) = (&mut right.0, &mut right.1, &mut right.2);
+    let told = receiver::receive_points(state, points, line, plain, distance);
     for receive_points in [tuned::receive_points, tuned::receive_in_passes] {
-        let (mut line, mut plain) = unwritten.clone();
-        let next = receive_points(state, points, &mut line, &mut plain);
-        assert_eq!(next, right, "{state:?}");
-        assert_eq!(line, right_line, "{state:?}");
-        assert_eq!(plain, right_plain, "{state:?}");
+        let mut tuned = unwritten();
+        let (line, plain, distance) = (&mut tuned.0, &mut tuned.1, &mut tuned.2);
+        let next = receive_points(state, points, line, plain, distance);
+        assert_eq!(next, told, "{state:?}");
+        assert_eq!(tuned, right, "{state:?}");
         if next.is_err() {
-            assert!(line.iter().chain(&plain).all(|&byte| byte == UNWRITTEN));
+            assert_eq!(tuned, unwritten());
         }
     }
-    right
+    told
 }
 
 fn accepted(state: Receiver, points: &[i16]) -> Receiver {
     let count = points.len() / 2;
-    receive(state, points, (count + 1, count + 3)).unwrap()
+    receive(state, points, (count + 1, count + 3, count + 2)).unwrap()
 }
 
 /// A receiver with a reference and so many line bits.
@@ -145,12 +157,17 @@ fn any_count_of_held_line_bits() {
 }
 
 /// Puts the fault of a number into a call.
-fn put_fault(number: u8, state: &mut Receiver, points: &mut [i16], lent: &mut (usize, usize)) {
+fn put_fault(
+    number: u8,
+    state: &mut Receiver,
+    points: &mut [i16],
+    lent: &mut (usize, usize, usize),
+) {
     match number {
         1 => state.mode = 5,
         2 => state.role = 2,
         4 => state.register = 1 << 30,
-        7 => lent.1 -= 1,
+        7 => lent.2 -= 1,
         8 => points[7] = -16385,
         _ => state.place = UnitIntervals(u32::MAX - 3),
     }
@@ -164,7 +181,7 @@ fn the_lowest_number_refuses_and_nothing_is_written() {
         for faults in 0..1 << numbers.len() {
             let mut state = holding(&mut rng, mode, role, 5);
             let mut points = noisy(&mut rng, mode, 4, 9);
-            let mut lent = (4, 4);
+            let mut lent = (4, 4, 4);
             let present = |k: &usize| faults >> k & 1 == 1;
             for k in (0..numbers.len()).filter(present) {
                 put_fault(numbers[k], &mut state, &mut points, &mut lent);
@@ -181,20 +198,21 @@ fn the_lowest_number_refuses_and_nothing_is_written() {
 fn refusals_at_their_limits() {
     let start = receiver::fresh(2, 0).unwrap();
     let refused = |state, points: &[i16], lent| receive(state, points, lent).err();
-    assert_eq!(refused(start, &[1, 0, 0], (9, 9)), Some(Refusal(7)));
-    assert_eq!(refused(start, &[1, 0, 0, 1], (1, 2)), Some(Refusal(7)));
-    assert_eq!(refused(start, &[1, 0, 0, 1], (2, 1)), Some(Refusal(7)));
+    assert_eq!(refused(start, &[1, 0, 0], (9, 9, 9)), Some(Refusal(7)));
+    for lent in [(1, 2, 2), (2, 1, 2), (2, 2, 1)] {
+        assert_eq!(refused(start, &[1, 0, 0, 1], lent), Some(Refusal(7)));
+    }
     for outside in [16385, -16385, i16::MAX, i16::MIN] {
         for at in 0..600 {
             let mut points = vec![16384; 600];
             points[at] = outside;
-            assert_eq!(refused(start, &points, (300, 300)), Some(Refusal(8)));
+            assert_eq!(refused(start, &points, (300, 300, 300)), Some(Refusal(8)));
         }
     }
     let place = UnitIntervals(u32::MAX - 2);
     let late = Receiver { place, ..start };
-    assert_eq!(refused(late, &[5; 4], (2, 2)), None);
-    assert_eq!(refused(late, &[5; 6], (3, 3)), Some(Refusal(16)));
+    assert_eq!(refused(late, &[5; 4], (2, 2, 2)), None);
+    assert_eq!(refused(late, &[5; 6], (3, 3, 3)), Some(Refusal(16)));
     for reference in 0..=255 {
         let reference = Some(reference);
         for mode in 0..=5 {
@@ -203,7 +221,7 @@ fn refusals_at_their_limits() {
                 reference,
                 ..start
             };
-            let _ = receive(state, &[5; 6], (3, 3));
+            let _ = receive(state, &[5; 6], (3, 3, 3));
         }
     }
 }

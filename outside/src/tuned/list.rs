@@ -1,7 +1,8 @@
 //! A listing: the points between lost counts are received as a block, and each
 //! line is its place and one of a few texts.
 
-use super::{chain, receive_in_passes};
+use super::chain;
+use super::receive::receive_bits_in_passes;
 use crate::mode::Mode;
 use crate::receiver::{self, Receiver, GAP_BYTE, REFERENCE_BYTE};
 use crate::refusal::{need, Refusal};
@@ -67,7 +68,7 @@ impl Points {
     fn list(&mut self, text: &mut Text, texts: &BitTexts) -> Result<(), Refusal> {
         let mut place = Decimal::of(self.state.place.0);
         let (line, plain) = (&mut self.line, &mut self.plain);
-        self.state = receive_in_passes(self.state, &self.numbers, line, plain)?;
+        self.state = receive_bits_in_passes(self.state, &self.numbers, line, plain)?;
         let count = self.numbers.len() / 2;
         for (&line, &plain) in self.line[..count].iter().zip(&self.plain) {
             text.put_piece(place.left_aligned(), place.digits);

@@ -1,7 +1,7 @@
 //! Blocks of points, received in passes over a stretch of them: symbols, line
-//! bits, data bits. The descrambler has no feedback, so no pass waits for the
-//! point before, and the compiler has each take several points at once; origin
-//! points and unsettled bits are put in afterwards.
+//! bits, data bits, distances. The descrambler has no feedback, so no pass waits
+//! for the point before, and the compiler has each take several points at once;
+//! origin points and unsettled bits are put in afterwards.
 
 use super::symbol::{self, ORIGIN};
 use crate::receiver::{Receiver, GAP_BYTE, REFERENCE_BYTE};
@@ -12,17 +12,24 @@ const STRETCH: usize = 128;
 /// The groups of line bits kept from before: they hold 23 line bits.
 const BACK: usize = 12;
 
-/// Takes points that are not refused, a stretch at a time.
+/// Takes points that are not refused, a stretch at a time. Distances are found
+/// only if there is a place for them.
 pub fn receive<const MODE: u8, const NEAR: u32>(
     state: Receiver,
     points: &[i16],
     line: &mut [u8],
     plain: &mut [u8],
+    distance: Option<&mut [u32]>,
 ) -> Receiver {
     let mut passes = Passes::<MODE, NEAR>::of(&state);
     let bytes = line.chunks_mut(STRETCH).zip(plain.chunks_mut(STRETCH));
+    let mut distances = distance.unwrap_or_default().chunks_mut(STRETCH);
     for (points, (line, plain)) in points.chunks(2 * STRETCH).zip(bytes) {
-        passes.take(points, line, plain);
+        let coordinates = Coordinates::of(points);
+        passes.take(&coordinates, line, plain);
+        if let Some(distance) = distances.next() {
+            coordinates.measure::<MODE>(&passes.symbols[1..], distance);
+        }
     }
     let intervals = (points.len() / 2) as u32;
     Receiver {
@@ -64,9 +71,9 @@ impl<const MODE: u8, const NEAR: u32> Passes<MODE, NEAR> {
         passes
     }
 
-    fn take(&mut self, points: &[i16], line: &mut [u8], plain: &mut [u8]) {
+    fn take(&mut self, points: &Coordinates, line: &mut [u8], plain: &mut [u8]) {
         let count = line.len();
-        decide::<MODE>(points, &mut self.symbols[1..=count]);
+        points.decide::<MODE>(&mut self.symbols[1..=count]);
         let symbols = self.symbols.iter().zip(&self.symbols[1..=count]);
         for (group, (&before, &symbol)) in self.groups[BACK..].iter_mut().zip(symbols) {
             *group = symbol::group::<MODE>(before, symbol);
@@ -158,13 +165,46 @@ impl<const MODE: u8, const NEAR: u32> Passes<MODE, NEAR> {
     }
 }
 
-fn decide<const MODE: u8>(points: &[i16], symbols: &mut [u8]) {
-    let (mut re, mut im) = ([0; STRETCH], [0; STRETCH]);
-    for (point, (re, im)) in points.chunks_exact(2).zip(re.iter_mut().zip(&mut im)) {
-        (*re, *im) = (point[0], point[1]);
+/// The coordinates of a stretch, each kind by itself.
+struct Coordinates {
+    re: [i16; STRETCH],
+    im: [i16; STRETCH],
+}
+
+impl Coordinates {
+    const ZEROS: Coordinates = Coordinates {
+        re: [0; STRETCH],
+        im: [0; STRETCH],
+    };
+
+    fn of(points: &[i16]) -> Coordinates {
+        let mut split = Coordinates::ZEROS;
+        let each = split.re.iter_mut().zip(&mut split.im);
+        for (point, (re, im)) in points.chunks_exact(2).zip(each) {
+            (*re, *im) = (point[0], point[1]);
+        }
+        split
     }
-    for ((symbol, &re), &im) in symbols.iter_mut().zip(&re).zip(&im) {
-        *symbol = symbol::decide::<MODE>(re, im);
+
+    fn decide<const MODE: u8>(&self, symbols: &mut [u8]) {
+        for ((symbol, &re), &im) in symbols.iter_mut().zip(&self.re).zip(&self.im) {
+            *symbol = symbol::decide::<MODE>(re, im);
+        }
+    }
+
+    /// Distances from the sent points of symbols. The squares have a loop of
+    /// their own: in the first one all numbers are of 16 bits, and twice as many
+    /// are taken at once.
+    fn measure<const MODE: u8>(&self, symbols: &[u8], distances: &mut [u32]) {
+        let mut apart = Coordinates::ZEROS;
+        let coordinates = self.re.iter().zip(&self.im).zip(symbols);
+        let each = apart.re.iter_mut().zip(&mut apart.im);
+        for ((x, y), ((&re, &im), &symbol)) in each.zip(coordinates) {
+            (*x, *y) = symbol::apart::<MODE>(re, im, symbol);
+        }
+        for ((distance, &x), &y) in distances.iter_mut().zip(&apart.re).zip(&apart.im) {
+            *distance = symbol::squared((x, y));
+        }
     }
 }
 

@@ -15,8 +15,9 @@ pub fn receive_points(
     points: &[i16],
     line: &mut [u8],
     plain: &mut [u8],
+    distance: &mut [u32],
 ) -> Result<Receiver, Refusal> {
-    checked::<false>(state, points, line, plain)
+    checked::<false>(state, points, line, plain, Some(distance))
 }
 
 /// The same in passes over a stretch of points.
@@ -25,8 +26,20 @@ pub fn receive_in_passes(
     points: &[i16],
     line: &mut [u8],
     plain: &mut [u8],
+    distance: &mut [u32],
 ) -> Result<Receiver, Refusal> {
-    checked::<true>(state, points, line, plain)
+    checked::<true>(state, points, line, plain, Some(distance))
+}
+
+/// The same without distances: a listing has none, and does not pay for a pass
+/// that finds them.
+pub(super) fn receive_bits_in_passes(
+    state: Receiver,
+    points: &[i16],
+    line: &mut [u8],
+    plain: &mut [u8],
+) -> Result<Receiver, Refusal> {
+    checked::<true>(state, points, line, plain, None)
 }
 
 fn checked<const PASSES: bool>(
@@ -34,22 +47,26 @@ fn checked<const PASSES: bool>(
     points: &[i16],
     line: &mut [u8],
     plain: &mut [u8],
+    distance: Option<&mut [u32]>,
 ) -> Result<Receiver, Refusal> {
     receiver::checked(&state)?;
     let count = points.len() / 2;
-    let lent = points.len().is_multiple_of(2) && line.len() >= count && plain.len() >= count;
-    need(lent, Refusal::LENT_NUMBERS)?;
+    let distances = distance.as_ref().map_or(count, |distance| distance.len());
+    let lent = line.len().min(plain.len()).min(distances);
+    let fits = points.len().is_multiple_of(2) && lent >= count;
+    need(fits, Refusal::LENT_NUMBERS)?;
     need(in_range(points), Refusal::COORDINATE)?;
     let left = (u32::MAX - state.place.0) as usize;
     need(count <= left, Refusal::TOO_LONG)?;
     let (line, plain) = (&mut line[..count], &mut plain[..count]);
+    let distance = distance.map(|distance| &mut distance[..count]);
     Ok(match (state.mode, state.role) {
-        (1, _) => receive::<PASSES, 1, 6>(state, points, line, plain),
-        (2, _) => receive::<PASSES, 2, 6>(state, points, line, plain),
-        (3, 0) => receive::<PASSES, 3, 18>(state, points, line, plain),
-        (3, _) => receive::<PASSES, 3, 5>(state, points, line, plain),
-        (_, 0) => receive::<PASSES, 4, 18>(state, points, line, plain),
-        (_, _) => receive::<PASSES, 4, 5>(state, points, line, plain),
+        (1, _) => receive::<PASSES, 1, 6>(state, points, line, plain, distance),
+        (2, _) => receive::<PASSES, 2, 6>(state, points, line, plain, distance),
+        (3, 0) => receive::<PASSES, 3, 18>(state, points, line, plain, distance),
+        (3, _) => receive::<PASSES, 3, 5>(state, points, line, plain, distance),
+        (_, 0) => receive::<PASSES, 4, 18>(state, points, line, plain, distance),
+        (_, _) => receive::<PASSES, 4, 5>(state, points, line, plain, distance),
     })
 }
 
@@ -69,10 +86,14 @@ fn receive<const PASSES: bool, const MODE: u8, const NEAR: u32>(
     points: &[i16],
     line: &mut [u8],
     plain: &mut [u8],
+    distance: Option<&mut [u32]>,
 ) -> Receiver {
     if PASSES && line.len() >= FEW {
-        passes::receive::<MODE, NEAR>(state, points, line, plain)
-    } else {
-        serial::receive::<MODE, NEAR>(state, points, line, plain)
+        return passes::receive::<MODE, NEAR>(state, points, line, plain, distance);
     }
+    // One point after the other each has its distance, asked for or not: none
+    // are asked for only where few points are to be received in passes.
+    let mut unread = [0; FEW];
+    let distance = distance.unwrap_or(&mut unread);
+    serial::receive::<MODE, NEAR>(state, points, line, plain, distance)
 }

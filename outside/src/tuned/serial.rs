@@ -11,15 +11,19 @@ pub fn receive<const MODE: u8, const NEAR: u32>(
     points: &[i16],
     line: &mut [u8],
     plain: &mut [u8],
+    distance: &mut [u32],
 ) -> Receiver {
     let mut serial = Serial::<MODE, NEAR> {
         reference: state.reference.map(symbol::of_state::<MODE>),
         register: state.register,
         held: state.held.0,
     };
-    let bytes = line.iter_mut().zip(plain);
-    for (point, (line, plain)) in points.chunks_exact(2).zip(bytes) {
-        (*line, *plain) = serial.take(symbol::decide::<MODE>(point[0], point[1]));
+    let numbers = line.iter_mut().zip(plain).zip(distance);
+    for (point, ((line, plain), distance)) in points.chunks_exact(2).zip(numbers) {
+        let (re, im) = (point[0], point[1]);
+        let symbol = symbol::decide::<MODE>(re, im);
+        (*line, *plain) = serial.take(symbol);
+        *distance = symbol::squared(symbol::apart::<MODE>(re, im, symbol));
     }
     let intervals = (points.len() / 2) as u32;
     Receiver {

@@ -62,7 +62,8 @@ fn eighth(re: i16, im: i16) -> u16 {
     let second_half = u16::from(square_re + square_im < 0);
     let middle = u16::from(square_im > square_re);
     let turns = 2 * second_half + (second_half ^ middle);
-    let half_turn = u16::from(if second_half == 0 { re } else { im } < 0);
+    let side = mask(second_half == 0);
+    let half_turn = u16::from((re & side | im & !side) < 0);
     turns + 4 * half_turn
 }
 
@@ -70,6 +71,47 @@ fn eighth(re: i16, im: i16) -> u16 {
 #[inline(always)]
 fn level(coordinate: i16) -> u16 {
     u16::from(coordinate.unsigned_abs() >= LEVEL_3)
+}
+
+/// How far a point in range lies from the sent point of its symbol, in each of
+/// the two coordinates: up to turns and signs, which the squares do not show, so
+/// that no sent point is looked up. Nothing at the origin.
+#[inline(always)]
+pub fn apart<const MODE: u8>(re: i16, im: i16, symbol: u8) -> (i16, i16) {
+    let (a, b) = (re.wrapping_abs(), im.wrapping_abs());
+    let (greater, lesser) = (a.max(b), a.min(b));
+    let (odd, half) = (mask(symbol & 1 != 0), mask(symbol & 2 != 0));
+    let (x, y) = match MODE {
+        1 => (greater - 4096, lesser),
+        // Odd states are sent at (2896, 2896), up to signs.
+        2 => (greater - 4096 + (odd & 1200), lesser - (odd & 2896)),
+        // From C's point, or from A's where the state has a half turn more.
+        3 => {
+            let (x, y) = if odd == 0 { (re, im) } else { (im, -re) };
+            (x - 3072 + (half & 6144), y - 1024 + (half & 2048))
+        }
+        _ => (off_level(a), off_level(b)),
+    };
+    let kept = mask((re | im) != 0);
+    (x & kept, y & kept)
+}
+
+/// All ones or none.
+#[inline(always)]
+fn mask(all: bool) -> i16 {
+    -i16::from(all)
+}
+
+/// How far a coordinate of this size lies from its level.
+#[inline(always)]
+fn off_level(size: i16) -> i16 {
+    size - 1024 - (mask(size >= LEVEL_3 as i16) & 2048)
+}
+
+/// The squared distance of a point that is so far from another.
+#[inline(always)]
+pub fn squared((x, y): (i16, i16)) -> u32 {
+    (i32::from(x) * i32::from(x) + i32::from(y) * i32::from(y)) as u32
 }
 
 /// The line bits of a symbol after another. Both differential codes count the
