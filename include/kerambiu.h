@@ -16,7 +16,8 @@
  *    5  a data byte above 1
  *    6  data bits not a multiple of w (none is fine)
  *    7  lent numbers too few from the offset, or an offset past their end; also fewer lent bytes than a state, an answer, a
- *       block or a listing has, no lent number for a count, and an odd count of the numbers of points
+ *       block or a listing has, fewer lent numbers than a block has distances, no lent number for a count, and an odd count of
+ *       the numbers of points
  *    8  a coordinate outside -16384 to 16384
  *    9  a gap, or a lost count to append, of 0
  *   10  a mode 2 point off the origin in none of the eight sectors; no point in whole numbers is one
@@ -71,9 +72,15 @@ extern "C" {
  *    2  data bits, likewise; an unsettled one is 0
  *    3  how many of the data bits are unsettled: the first ones in time
  *    4  the gap in unit intervals, u32; 0 for the other kinds
+ *    8  the distance of the point, u32; 0 for a gap
  * Bytes 1 to 3 are 0 for kinds 0 and 2.
+ *
+ * The distance is that from the received point to the sent point of the decided state, in squared units, 1024 units to one
+ * level: the squares of how far re and im are apart, added. A point in range has 419430400 at most. No minimum is promised: in
+ * mode 2 the decided state is not always that of the nearest sent point. There (1, 0) is decided 0 with the distance 16769025,
+ * and is 16767841 from the sent point of state 1.
  */
-#define KERAMBIU_ANSWER_BYTES 8
+#define KERAMBIU_ANSWER_BYTES 12
 
 /*
  * Makes a receiver that has taken nothing: no reference, no line bits, place 0.
@@ -102,21 +109,24 @@ uint8_t kerambiu_receive_gap(uint8_t *state, size_t state_len, uint32_t n, uint8
 
 /*
  * Takes a block of points, re and im in turn, all or none: as one kerambiu_receive_point after the other. For each point a byte
- * is written into `line` and one into `plain`; lent bytes beyond the points stay as they are.
- *   line    the line bits, a number with the first in time highest (0 to 15); KERAMBIU_REFERENCE for a point that became the
- *           reference, KERAMBIU_ORIGIN for one at the origin, a gap of one interval
- *   plain   the data bits likewise, an unsettled one being 0, plus 16 times the count of unsettled ones, the first in time;
- *           0 beside KERAMBIU_REFERENCE and KERAMBIU_ORIGIN
+ * is written into `line`, one into `plain` and a number into `distance`; lent bytes and numbers beyond the points stay as they
+ * are.
+ *   line      the line bits, a number with the first in time highest (0 to 15); KERAMBIU_REFERENCE for a point that became the
+ *             reference, KERAMBIU_ORIGIN for one at the origin, a gap of one interval
+ *   plain     the data bits likewise, an unsettled one being 0, plus 16 times the count of unsettled ones, the first in time;
+ *             0 beside KERAMBIU_REFERENCE and KERAMBIU_ORIGIN
+ *   distance  the distance as in an answer, also beside KERAMBIU_REFERENCE; 0 beside KERAMBIU_ORIGIN
  *
  *    1, 2, 4  the state, if it has all its bytes
- *    7        fewer bytes than a state has; an odd count of numbers; in `line` or in `plain` fewer bytes than points
+ *    7        fewer bytes than a state has; an odd count of numbers of points; in `line` or in `plain` fewer bytes than points;
+ *             in `distance` fewer numbers than points
  *    8, 10    any of the points
  *   16        the place after all of them
  */
 #define KERAMBIU_REFERENCE 16
 #define KERAMBIU_ORIGIN 17
 uint8_t kerambiu_receive_points(uint8_t *state, size_t state_len, const int16_t *points, size_t points_len, uint8_t *line,
-                                size_t line_len, uint8_t *plain, size_t plain_len);
+                                size_t line_len, uint8_t *plain, size_t plain_len, uint32_t *distance, size_t distance_len);
 
 /*
  * Opens a sender: writes the points of its training, re and im in turn, into the lent numbers from the offset on, and the state

@@ -1,7 +1,8 @@
 /*
- * A receiver in mode 1 takes (4096, 0), (0, 4096), a gap of 3 and (-4096, 0), and prints a line for each event: the place
- * before it, its kind, and bits (line, then data, - unsettled) or count. Then the same events go into a track store, and its
- * listing is printed.
+ * A receiver in mode 1 takes (4096, 0), (100, 4000), a gap of 3 and (-4096, 0), and prints a line for each event: the place
+ * before it, its kind, and bits (line, then data, - unsettled) or count; for a point also its distance from the sent point in
+ * squared units, here 100 * 100 + 96 * 96 for the second one. Then the same events, all points as sent, go into a track store,
+ * and its listing is printed, which has no distances.
  */
 #include <stdio.h>
 
@@ -23,13 +24,19 @@ static void print_bits(unsigned width, unsigned bits, unsigned unsettled)
         putchar(k < unsettled ? '-' : '0' + (bits >> (width - 1 - k) & 1));
 }
 
+static void print_distance(void)
+{
+    printf(" distance %u\n", u32_at(answer + 8));
+}
+
 /* Prints an answer in mode 1, which has two bits in a point. */
 static void print_answer(unsigned place, unsigned refusal)
 {
     if (refusal != 0) {
         printf("refused %u\n", refusal);
     } else if (answer[0] == 0) {
-        printf("%u ref\n", place);
+        printf("%u ref", place);
+        print_distance();
     } else if (answer[0] == 2) {
         printf("%u lost %u\n", place, u32_at(answer + 4));
     } else {
@@ -37,7 +44,7 @@ static void print_answer(unsigned place, unsigned refusal)
         print_bits(2, answer[1], 0);
         putchar(' ');
         print_bits(2, answer[2], answer[3]);
-        putchar('\n');
+        print_distance();
     }
 }
 
@@ -80,7 +87,7 @@ int main(void)
         return 1;
     }
     point(4096, 0);
-    point(0, 4096);
+    point(100, 4000);
     gap(3);
     point(-4096, 0);
     printf("total %u\n", u32_at(state + 12));
