@@ -7,7 +7,7 @@ use outside::units::{BitCount, UnitIntervals};
 
 /// The bytes of a state, of a receiver or of a sender, and of an answer.
 pub const STATE: usize = 16;
-pub const ANSWER: usize = 8;
+pub const ANSWER: usize = 12;
 
 /// No state of any mode: what a layout that is broken reads as.
 const NO_STATE: u8 = 255;
@@ -49,18 +49,22 @@ pub fn receiver_of(bytes: &[u8; STATE]) -> Receiver {
 /// The bytes of an answer; w is the mode's count of line bits in a point.
 pub fn answer_bytes(width: u32, answer: &Answer) -> [u8; ANSWER] {
     let mut bytes = [0; ANSWER];
-    match *answer {
-        Answer::Reference => {}
+    let (first, gap, distance) = match *answer {
+        Answer::Reference { distance } => ([0; 4], 0, distance.0),
         Answer::Bits {
             line,
             plain,
             settled,
-        } => bytes[..4].copy_from_slice(&[1, line, plain, (width - settled.count_ones()) as u8]),
-        Answer::Gap(length) => {
-            bytes[0] = 2;
-            bytes[4..].copy_from_slice(&length.0.to_le_bytes());
+            distance,
+        } => {
+            let unsettled = (width - settled.count_ones()) as u8;
+            ([1, line, plain, unsettled], 0, distance.0)
         }
-    }
+        Answer::Gap(length) => ([2, 0, 0, 0], length.0, 0),
+    };
+    bytes[..4].copy_from_slice(&first);
+    bytes[4..8].copy_from_slice(&gap.to_le_bytes());
+    bytes[8..].copy_from_slice(&distance.to_le_bytes());
     bytes
 }
 

@@ -10,10 +10,11 @@ use outside::rng::Rng;
 use outside::sender::{scrambled_group, Sender};
 use outside::units::UnitIntervals;
 
+use crate::bulk::{self, Block, Lent};
 use crate::layout::{self, ANSWER};
 use crate::signal::Signal;
 use crate::tally::Tally;
-use crate::{bulk, ours, points, receiving, sending};
+use crate::{ours, points, receiving, sending};
 
 const SEED: u64 = 6;
 
@@ -84,7 +85,8 @@ fn number_of(bits: &[u8]) -> u8 {
     bits.iter().fold(0, |number, bit| 2 * number + bit)
 }
 
-/// A fresh receiver takes a point: the reference after it is the decided state.
+/// A fresh receiver takes a point: the reference after it is the decided state,
+/// and the answer has the distance.
 fn decide(tally: &mut Tally, signal: Signal, (re, im): (i16, i16)) {
     let fresh = signal.receiver();
     let (before, unwritten) = (layout::receiver_bytes(&fresh), [0xa5; ANSWER]);
@@ -102,7 +104,7 @@ fn decide(tally: &mut Tally, signal: Signal, (re, im): (i16, i16)) {
     };
     let right = match point::decide(signal.mode, re, im) {
         _ if !(Point { re, im }).in_range() => (8, before, unwritten),
-        Decision::State(state) => after(Answer::Reference, Some(state)),
+        Decision::State { state, distance } => after(Answer::Reference { distance }, Some(state)),
         Decision::Origin => after(Answer::Gap(UnitIntervals(1)), None),
         Decision::NoSector => (10, before, unwritten),
     };
@@ -181,7 +183,8 @@ fn receive_state(tally: &mut Tally, signal: Signal, reference: u8, register: u32
     let (after, answer) = receiving::run_point(tally, before, sent);
     let group = code::group(signal.mode, reference, state);
     let plain = number_of(&data_of(signal, register, group));
-    let same = after[3] == state && answer[..4] == [1, group, plain, 0];
+    // Neither a gap nor a distance.
+    let same = after[3] == state && answer == [1, group, plain, 0, 0, 0, 0, 0, 0, 0, 0, 0];
     tally.check(same, || {
         format!("state {state} after {before:?}: {after:?} {answer:?}")
     });
@@ -221,7 +224,12 @@ fn run_bits(tally: &mut Tally, rng: &mut Rng, signal: Signal, register: u32, dat
     let sent = sending::run_send(tally, &layout::sender_bytes(&start), data, 2 * RUN, 0);
     let mut hear = |from: Receiver| {
         let before = layout::receiver_bytes(&from);
-        bulk::run(tally, signal.mode.width, before, &sent.out, (RUN, RUN))
+        let block = Block {
+            state: before,
+            numbers: sent.out.clone(),
+            lent: Lent::of(RUN),
+        };
+        bulk::run(tally, signal.mode.width, &block)
     };
     let knowing = hear(receiver(signal, reference, register));
     let fresh = hear(signal.receiver());
@@ -234,11 +242,12 @@ fn run_bits(tally: &mut Tally, rng: &mut Rng, signal: Signal, register: u32, dat
     });
     let line: Vec<u8> = scrambled.collect();
     let plain: Vec<u8> = groups().map(number_of).collect();
-    let same = knowing.line == line && knowing.plain == plain;
+    let same = knowing.line == line && knowing.plain == plain && knowing.distance == [0; RUN];
     tally.check(same, || format!("bits from {start:?}, register known"));
     // The first point is the reference.
     let same = [fresh.line[0], fresh.plain[0]] == [REFERENCE_BYTE, 0]
         && fresh.line[1..] == line[1..]
+        && fresh.distance == [0; RUN]
         && fresh.plain[1..] == marked(signal.mode, &plain[1..]);
     tally.check(same, || format!("bits from {start:?}, fresh receiver"));
 }

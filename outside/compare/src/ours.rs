@@ -32,6 +32,8 @@ mod c {
             line_len: usize,
             plain: *mut u8,
             plain_len: usize,
+            distance: *mut u32,
+            distance_len: usize,
         ) -> u8;
         pub fn kerambiu_open(
             state: *mut u8,
@@ -98,16 +100,27 @@ pub fn receive_gap(state: &mut [u8], n: u32, answer: &mut [u8]) -> u8 {
     unsafe { c::kerambiu_receive_gap(state.as_mut_ptr(), state.len(), n, at, len) }
 }
 
-/// Points are re and im in turn; a byte of line bits and one of data bits for
-/// each.
-pub fn receive_points(state: &mut [u8], points: &[i16], line: &mut [u8], plain: &mut [u8]) -> u8 {
-    let (from, count) = (points.as_ptr(), points.len());
-    let (lines, lines_len) = (line.as_mut_ptr(), line.len());
-    let (plains, plains_len) = (plain.as_mut_ptr(), plain.len());
-    let (state, state_len) = (state.as_mut_ptr(), state.len());
+/// Points are re and im in turn; a byte of line bits, one of data bits and a
+/// distance for each.
+pub fn receive_points(
+    state: &mut [u8],
+    points: &[i16],
+    line: &mut [u8],
+    plain: &mut [u8],
+    distance: &mut [u32],
+) -> u8 {
     unsafe {
         c::kerambiu_receive_points(
-            state, state_len, from, count, lines, lines_len, plains, plains_len,
+            state.as_mut_ptr(),
+            state.len(),
+            points.as_ptr(),
+            points.len(),
+            line.as_mut_ptr(),
+            line.len(),
+            plain.as_mut_ptr(),
+            plain.len(),
+            distance.as_mut_ptr(),
+            distance.len(),
         )
     }
 }

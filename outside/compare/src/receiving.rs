@@ -245,16 +245,20 @@ fn run_short_states(tally: &mut Tally) {
     for size in 0..STATE {
         for re in [0, 4096, 16385] {
             let (mut state, mut answer) = (vec![1; size], vec![UNWRITTEN; ANSWER]);
-            let mut other = answer.clone();
+            let (mut line, mut plain, mut distance) = ([UNWRITTEN], [UNWRITTEN], [9]);
+            let mut block = |state: &mut [u8], points: &[i16]| {
+                ours::receive_points(state, points, &mut line, &mut plain, &mut distance)
+            };
             let numbers = [
                 ours::receive_point(&mut state, re, 0, &mut answer),
                 ours::receive_gap(&mut state, re as u32, &mut answer),
-                ours::receive_points(&mut state, &[re, 0], &mut answer, &mut other),
-                ours::receive_points(&mut state, &[], &mut answer, &mut other),
+                block(&mut state, &[re, 0]),
+                block(&mut state, &[]),
             ];
             numbers.iter().for_each(|&number| tally.count(number));
-            let kept = state == vec![1; size] && answer == [UNWRITTEN; ANSWER] && other == answer;
-            tally.check(numbers == [7; 4] && kept, || {
+            let kept = state == vec![1; size] && answer == [UNWRITTEN; ANSWER];
+            let block_kept = (line, plain, distance) == ([UNWRITTEN], [UNWRITTEN], [9]);
+            tally.check(numbers == [7; 4] && kept && block_kept, || {
                 format!("a state of {size} bytes: {numbers:?}")
             });
         }

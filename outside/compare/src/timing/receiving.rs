@@ -4,11 +4,11 @@ use std::hint::black_box;
 
 use outside::point::Point;
 use outside::receiver::{self, Receiver};
-use outside::refusal::Refusal;
 use outside::tuned;
 
 use super::measure::{Side, Work};
 use super::{call_row, input};
+use crate::bulk::ReceiveBlock;
 use crate::layout::{self, ANSWER, STATE};
 use crate::signal::Signal;
 use crate::{ours, points};
@@ -97,7 +97,7 @@ impl Receives for Plain {
     }
 }
 
-/// The plain implementation over the same 16 and 8 bytes as the proved one.
+/// The plain implementation over the same 16 and 12 bytes as the proved one.
 struct InBytes {
     width: u32,
     state: [u8; STATE],
@@ -217,9 +217,6 @@ pub struct Blocks<'a> {
     gaps: bool,
 }
 
-/// What receives a block.
-type ReceiveBlock = fn(Receiver, &[i16], &mut [u8], &mut [u8]) -> Result<Receiver, Refusal>;
-
 impl<'a> Blocks<'a> {
     /// All points in one block, which may be empty.
     pub fn of_one(signal: Signal, numbers: &'a [i16]) -> Blocks<'a> {
@@ -240,34 +237,37 @@ impl<'a> Blocks<'a> {
     /// Blocks one after the other, each received by a call on the receiver.
     fn side<'b, R: Receives + 'b>(
         &'b self,
-        receive: impl Fn(&mut R, &[i16], &mut [u8], &mut [u8]) + 'b,
+        receive: impl Fn(&mut R, &[i16], &mut [u8], &mut [u8], &mut [u32]) + 'b,
     ) -> Side<'b> {
         let (mut line, mut plain) = (vec![0; self.size], vec![0; self.size]);
+        let mut distance = vec![0; self.size];
         Box::new(move |mut kept| {
             let mut receiver = R::fresh(self.signal);
             for block in self.blocks() {
-                receive(&mut receiver, block, &mut line, &mut plain);
-                black_box((&line, &plain));
+                receive(&mut receiver, block, &mut line, &mut plain, &mut distance);
+                black_box((&line, &plain, &distance));
                 if self.gaps {
                     receiver.gap();
                 }
                 if let Some(kept) = &mut kept {
                     kept.extend(line.iter().chain(&plain).chain(&receiver.state()));
+                    kept.extend(distance.iter().flat_map(|number| number.to_le_bytes()));
                 }
             }
         })
     }
 
     fn proved_side(&self) -> Side<'_> {
-        self.side(|proved: &mut Proved, block, line, plain| {
-            black_box(ours::receive_points(&mut proved.state, block, line, plain));
+        self.side(|proved: &mut Proved, block, line, plain, distance| {
+            let state = &mut proved.state;
+            black_box(ours::receive_points(state, block, line, plain, distance));
         })
     }
 
     /// The plain implementation or the tuned one.
     fn rust_side(&self, receive_points: ReceiveBlock) -> Side<'_> {
-        self.side(move |rust: &mut Plain, block, line, plain| {
-            let told = receive_points(rust.state, block, line, plain);
+        self.side(move |rust: &mut Plain, block, line, plain, distance| {
+            let told = receive_points(rust.state, block, line, plain, distance);
             rust.state = black_box(told).expect("taken");
         })
     }
