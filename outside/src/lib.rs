@@ -1,5 +1,6 @@
 //! The line recorder's symbol codec in plain Rust, written from document 01
-//! (`01-scope.md`) and Recommendations V.27 ter (000) and V.32 (001).
+//! (`01-scope.md`), request R-1 of document 02 (`02-change-requests.md`) and
+//! Recommendations V.27 ter (000) and V.32 (001).
 //!
 //! It is the outside implementation that the proved one is compared with.
 //! Every public call is total; a refused call gives its number alone and leaves
