@@ -7,24 +7,26 @@ use native.Mathlib.Omega.{arith}
 use borrow.Author.Tests.{le-leb, lt-leb, leb-true}
 use lib.Dec.{T, eqb, leb, eqb→eq}
 use lib.IntN.{ℤ, pos}
-use lib.ListN.{length, getD, set, drop, length-drop}
-use lib.Seq.{sets}
+use lib.ListN.{length, getD, set, drop, length-drop, length-set}
+use mir.Syntax.{w16}
+use mir.Val.{SFits}
 use Rattle.line.specs.declared.Point.{Point}
-use Rattle.deciding.specs.declared.Decision.{Decision}
-use Rattle.deciding.specs.declared.Decision.the-variants.{State, Origin}
-use Rattle.line.specs.Table.{every}
+use Rattle.deciding.specs.declared.SquaredUnits.{SquaredUnits}
+use Rattle.line.specs.Table.{every, Tabled}
 use Rattle.line.specs.Mode.{isState, face, capacity}
-use Rattle.line.specs.Point.{at, pairs, coordinateIn, inRange, coordinatesIn, isOrigin}
-use Rattle.deciding.specs.Decide.{decide}
+use Rattle.line.specs.Point.{at, pairs, coordinateIn, inRange, coordinatesIn, isOrigin, sentPoint}
+use Rattle.deciding.specs.Decide.{Region, State, Origin, decide}
+use Rattle.deciding.specs.Distance.{squaredDistance, distance}
 use Rattle.deciding.specs.Sizes.{ringOf, ringIndex}
 use Rattle.coding.specs.Code.{group}
 use Rattle.coding.specs.Rows.{rowIndex, withRow, Rows}
 use Rattle.deciding.proofs.DecideLaws.{Off}
+use Rattle.deciding.proofs.DistanceLaws.{sent-law}
 use Rattle.coding.proofs.RowLaws.{looked-up as row-looked-up}
 use Rattle.line.specs.Refusal.{need, accepted}
 use Rattle.line.proofs.RefusalLaws.{need-met, need-rest, need-intro, next-first, next-rest, or-some}
 use Rattle.line.proofs.TableLaws.{and-left, and-right, and-intro, is-true}
-use Rattle.line.proofs.PointLaws.{pairs-step, pairs-end, pairs-length}
+use Rattle.line.proofs.PointLaws.{pairs-step, pairs-end, pairs-length, sent-round}
 use Rattle.deciding.proofs.RingLaws.{looked-up, origin-none}
 use Rattle.scrambler.specs.declared.Register.{Register}
 use Rattle.scrambler.specs.declared.Descrambled.{Descrambled}
@@ -42,8 +44,8 @@ use Rattle.receiver.proofs.TurnLaws.{bits-group}
 use Rattle.bulk.specs.declared.Block.{Block}
 use Rattle.bulk.specs.declared.Block.the-variants.{Refused as NotTaken, Taken}
 use Rattle.bulk.specs.declared.Step.{Step}
-use Rattle.bulk.specs.Hearing.{step, stateStep, left, Hearing, settledAt}
-use Rattle.bulk.specs.Block.{lineByte, plainByte, answersTo, lentOk, blockRefusal, numberOf, stateOf, Told, block, lineBytes, plainBytes, JustWhen, AllHeard}
+use Rattle.bulk.specs.Hearing.{step, stateStep, left, AsLong, Hearing, Holds, settledAt}
+use Rattle.bulk.specs.Block.{plainByte, answersTo, Parts, parts, wrote, Lent, sizes, lentOk, blockRefusal, numberOf, stateOf, Told, block, partsAfter, JustWhen, AllHeard}
 
 -- ONE POINT
 
@@ -63,51 +65,52 @@ module _ (s : Receiver) (p : Point) (z : refusal s (point p) ≡ 0) where
   abbrev taken : Step
   taken = step (answer s (point p)) (next s (point p))
 
-  step-as : (d : Decision) → d ≡ decide (s .mode) p → step (pointAnswer s d) (pointNext s d) ≡ taken
+  step-as : (d : Region) → d ≡ decide (s .mode) p → step (pointAnswer s p d) (pointNext s d) ≡ taken
   unfolding answer eventAnswer next eventNext
   step-as d e =
-      ap (λ (u : Decision). step (pointAnswer s u) (pointNext s u)) e
-      ∙ ap (λ (n : ℕ). step (accepted n (pointAnswer s (decide (s .mode) p)) (refused n)) (accepted n (pointNext s (decide (s .mode) p)) s)) (sym z)
+      ap (λ (u : Region). step (pointAnswer s p u) (pointNext s u)) e
+      ∙ ap (λ (n : ℕ). step (accepted n (pointAnswer s p (decide (s .mode) p)) (refused n)) (accepted n (pointNext s (decide (s .mode) p)) s)) (sym z)
 
   -- the group of two states is the number of its bits
-  state-step : (o : Reference) (y : ℕ) → T (isState (s .mode) y) → T (fieldsOk (s .mode) o (s .line)) → stateStep s o y ≡ step (stateAnswer s o y) (stateNext s o y)
+  state-step : (o : Reference) (y : ℕ) (u : SquaredUnits) → T (isState (s .mode) y) → T (fieldsOk (s .mode) o (s .line)) → stateStep s o y u ≡ step (stateAnswer s o y (u .0)) (stateNext s o y)
   unfolding stateStep stateAnswer descrambled fieldsOk
-  state-step none y h t = refl
-  state-step (some x) y h t =
-      ap (λ (g : ℕ). record { line = g; plain = plainByte (stateAnswer s (some x) y); next = stateNext s (some x) y })
+  state-step none y u h t = refl
+  state-step (some x) y u h t =
+      ap (λ (g : ℕ). record { line = g; plain = plainByte (stateAnswer s (some x) y (u .0)); distance = u; next = stateNext s (some x) y })
       (sym (bits-group (s .mode) (accepted-valid s (point p) z .mode) x y (and-left (isState (s .mode) x) (registerOk (s .mode) (s .line)) t) h))
 
-  decided-step : (y : ℕ) → State y ≡ decide (s .mode) p → isOrigin p ≡ false → stateStep s (s .reference) y ≡ taken
+  decided-step : (y : ℕ) (u : SquaredUnits) → State y ≡ decide (s .mode) p → u .0 ≡ distance (s .mode) y p → isOrigin p ≡ false → stateStep s (s .reference) y u ≡ taken
   unfolding pointAnswer pointNext
-  decided-step y e o =
-      state-step (s .reference) y (subst (Off (s .mode)) (sym e) (accepted-off s p z o)) (accepted-valid s (point p) z .fields) ∙ step-as (State y) e
+  decided-step y u e q o =
+      state-step (s .reference) y u (subst (Off (s .mode)) (sym e) (accepted-off s p z o)) (accepted-valid s (point p) z .fields)
+      ∙ ap (λ (n : ℕ). step (stateAnswer s (s .reference) y n) (stateNext s (s .reference) y)) q ∙ step-as (State y) e
 
 -- its step, by what it is decided as
 module _ (s : Receiver) (re im : ℤ) (z : refusal s (point (at re im)) ≡ 0) (origin : Bool) (e : origin ≡ isOrigin (at re im)) where
-  pub hear-state : (ring : List ℕ) (n : ℕ) (r : Step) → origin ≡ false → ring ≡ ringOf (s .mode) → n ≡ getD ring (ringIndex (s .mode) re im) 0 → r ≡ stateStep s (s .reference) n → r ≡ taken s (at re im) z
-  hear-state ring n r h i q t = t ∙ decided-step s (at re im) z n (looked-up (s .mode) re im ring n i q (sym e ∙ h)) (sym e ∙ h)
+  pub hear-state : (ring : List ℕ) (n : ℕ) (u : SquaredUnits) (r : Step) → origin ≡ false → ring ≡ ringOf (s .mode) → n ≡ getD ring (ringIndex (s .mode) re im) 0 → u .0 ≡ distance (s .mode) n (at re im) → r ≡ stateStep s (s .reference) n u → r ≡ taken s (at re im) z
+  hear-state ring n u r h i q d t = t ∙ decided-step s (at re im) z n u (looked-up (s .mode) re im ring n i q (sym e ∙ h)) d (sym e ∙ h)
 
   pub hear-origin : (r : Step) → origin ≡ true → r ≡ step (lost 1) (forgotten s 1) → r ≡ taken s (at re im) z
   unfolding pointAnswer pointNext
   hear-origin r h t = t ∙ step-as s (at re im) z Origin (origin-none (s .mode) re im (sym e ∙ h))
 
 -- a decided point and the origin from their parts
-module _ (s t : Receiver) (y : ℕ) (o : Reference) where
+module _ (s t : Receiver) (y : ℕ) (u : SquaredUnits) (o : Reference) where
   pub take-reference : o ≡ none → t ≡ receiver (s .mode) (s .role) (some y) (s .line) (s .place .0 + 1)
-      → _≡_ {A = Step} (record { line = 16; plain = 0; next = t }) (stateStep s o y)
+      → _≡_ {A = Step} (record { line = 16; plain = 0; distance = u; next = t }) (stateStep s o y u)
   unfolding stateStep stateNext stateLine
   take-reference is q = rw (q, is)
 
   pub take-bits : (x g : ℕ) (d : Descrambled) (rows : List ℕ) → o ≡ some x → Rows (s .mode) rows → g ≡ withRow (s .mode) (getD rows (rowIndex (s .mode) x y) 0) y → d ≡ descrambled (s .mode) (s .role) (s .line) g
       → t ≡ receiver (s .mode) (s .role) (some y) (d .next) (s .place .0 + 1)
-      → _≡_ {A = Step} (record { line = g; plain = 16 * d .unsettled .0 + d .plain; next = t }) (stateStep s o y)
+      → _≡_ {A = Step} (record { line = g; plain = 16 * d .unsettled .0 + d .plain; distance = u; next = t }) (stateStep s o y u)
   unfolding stateStep stateNext stateLine descrambled
   take-bits x g d rows is t e q r =
       let f : g ≡ group (s .mode) (face (s .mode) x) y = e ∙ row-looked-up (s .mode) x y rows t in
       rw (r, q, f, is)
 
 pub lose-law : (s t : Receiver) (h : Register) → h ≡ fresh → t ≡ receiver (s .mode) (s .role) none h (s .place .0 + 1)
-    → _≡_ {A = Step} (record { line = 17; plain = 0; next = t }) (step (lost 1) (forgotten s 1))
+    → _≡_ {A = Step} (record { line = 17; plain = 0; distance = record { 0 = 0 }; next = t }) (step (lost 1) (forgotten s 1))
 unfolding forgotten
 lose-law s t h e q = rw (q, e)
 
@@ -136,7 +139,7 @@ accepted-one-by-one s (p ∷ ps) z i l =
 -- ONE BY ONE
 
 -- the numbers from 7 on, in their order
-module _ (s : Receiver) (zs : List ℤ) (a b : ℕ) where
+module _ (s : Receiver) (zs : List ℤ) (n : Lent) where
   abbrev room-number : ℕ
   room-number = need (hasRoom s (length (pairs zs))) 16 0
 
@@ -146,31 +149,34 @@ module _ (s : Receiver) (zs : List ℤ) (a b : ℕ) where
   abbrev range-number : ℕ
   range-number = need (every inRange (pairs zs)) 8 sector-number
 
-  lent-is : (eqb (length zs % 2) 0 && leb (length zs / 2) a) && leb (length zs / 2) b ≡ lentOk zs a b
+  lent-is : ((eqb (length zs % 2) 0 && leb (length zs / 2) (n .line)) && leb (length zs / 2) (n .plain)) && leb (length zs / 2) (n .distance) ≡ lentOk zs n
   unfolding lentOk
   lent-is = rw (pairs-length zs)
 
-  module _ (z : blockRefusal s zs a b ≡ 0) where
+  module _ (z : blockRefusal s zs n ≡ 0) where
     passes : stateRefusal s ≡ 0
     unfolding blockRefusal
     passes = next-first (stateRefusal s) _ z
 
-    lent : need (lentOk zs a b) 7 range-number ≡ 0
+    lent : need (lentOk zs n) 7 range-number ≡ 0
     unfolding blockRefusal
     lent = next-rest (stateRefusal s) _ z
 
     in-range : range-number ≡ 0
-    in-range = need-rest (lentOk zs a b) 6 _ lent
+    in-range = need-rest (lentOk zs n) 6 _ lent
 
-    pub has-bytes : (length zs / 2 ≤ a) × (length zs / 2 ≤ b)
-    unfolding lentOk
-    has-bytes =
-        let n = pairs-length zs in
-        let t = need-met (lentOk zs a b) 6 _ lent in
-        let u = and-left (eqb (length zs % 2) 0 && leb (length (pairs zs)) a) (leb (length (pairs zs)) b) t in
-        let x : length (pairs zs) ≤ a = leb-true _ _ (is-true _ (and-right (eqb (length zs % 2) 0) (leb (length (pairs zs)) a) u)) in
-        let y : length (pairs zs) ≤ b = leb-true _ _ (is-true _ (and-right (eqb (length zs % 2) 0 && leb (length (pairs zs)) a) (leb (length (pairs zs)) b) t)) in
-        (omega arith, omega arith)
+    pub has-places : ((length zs / 2 ≤ n .line) × (length zs / 2 ≤ n .plain)) × (length zs / 2 ≤ n .distance)
+    has-places =
+        let t : T (((eqb (length zs % 2) 0 && leb (length zs / 2) (n .line)) && leb (length zs / 2) (n .plain)) && leb (length zs / 2) (n .distance)) =
+        subst T (sym lent-is) (need-met (lentOk zs n) 6 _ lent) in
+        let u = and-left ((eqb (length zs % 2) 0 && leb (length zs / 2) (n .line)) && leb (length zs / 2) (n .plain)) (leb (length zs / 2) (n .distance)) t in
+        let v = and-left (eqb (length zs % 2) 0 && leb (length zs / 2) (n .line)) (leb (length zs / 2) (n .plain)) u in (
+          (
+            leb-true _ _ (is-true _ (and-right (eqb (length zs % 2) 0) (leb (length zs / 2) (n .line)) v)),
+            leb-true _ _ (is-true _ (and-right (eqb (length zs % 2) 0 && leb (length zs / 2) (n .line)) (leb (length zs / 2) (n .plain)) u)),
+          ),
+          leb-true _ _ (is-true _ (and-right ((eqb (length zs % 2) 0 && leb (length zs / 2) (n .line)) && leb (length zs / 2) (n .plain)) (leb (length zs / 2) (n .distance)) t)),
+        )
 
     -- no single call of an accepted block is refused
     pub one-by-one : EachAccepted s (map point (pairs zs))
@@ -193,18 +199,18 @@ each-has-place s (p ∷ ps) l f =
     omega arith
 
 -- and where none is, the state passes and the bytes suffice, the block is accepted. The place is a u32.
-pub at-once : (s : Receiver) (zs : List ℤ) (a b : ℕ) → stateRefusal s ≡ 0 → s .place .0 ≤ 4294967295 → T (lentOk zs a b) → EachAccepted s (map point (pairs zs)) → blockRefusal s zs a b ≡ 0
+pub at-once : (s : Receiver) (zs : List ℤ) (n : Lent) → stateRefusal s ≡ 0 → s .place .0 ≤ 4294967295 → T (lentOk zs n) → EachAccepted s (map point (pairs zs)) → blockRefusal s zs n ≡ 0
 unfolding blockRefusal hasRoom
-at-once s zs a b z l t f =
-    rw z (need-intro (lentOk zs a b) 7 _ t (need-intro (every inRange (pairs zs)) 8 _ (each-in-range s (pairs zs) f)
+at-once s zs n z l t f =
+    rw z (need-intro (lentOk zs n) 7 _ t (need-intro (every inRange (pairs zs)) 8 _ (each-in-range s (pairs zs) f)
     (need-intro (every (λ p. inSector (decide (s .mode) p)) (pairs zs)) 10 _ (each-in-a-sector (s .mode) (pairs zs))
     (rw (le-leb (s .place .0 + length (pairs zs)) 4294967295 (each-has-place s (pairs zs) l f))))))
 
 pub just-when : JustWhen
-just-when s zs a b l = (λ z. (passes s zs a b z, need-met (lentOk zs a b) 6 _ (lent s zs a b z), one-by-one s zs a b z), λ h. at-once s zs a b (h .0) l (h .1) (h .2))
+just-when s zs n l = (λ z. (passes s zs n z, need-met (lentOk zs n) 6 _ (lent s zs n z), one-by-one s zs n z), λ h. at-once s zs n (h .0) l (h .1) (h .2))
 
 pub all-heard : AllHeard
-all-heard s zs a b z = heard-all s (map point (pairs zs)) (one-by-one s zs a b z)
+all-heard s zs n z = heard-all s (map point (pairs zs)) (one-by-one s zs n z)
 
 -- THE WAYS OF THE CODE
 
@@ -216,49 +222,50 @@ each-of (x ∷ []) h = absurd (omega arith)
 each-of (x ∷ y ∷ zs) h =
     sym (and-assoc (coordinateIn x) (coordinateIn y) (coordinatesIn zs)) ∙ ap (λ (t : Bool). (coordinateIn x && coordinateIn y) && t) (each-of zs (omega arith))
 
-module _ (s : Receiver) (zs : List ℤ) (a b f : ℕ) (e : f ≡ stateRefusal s) where
-  pub fault-state : (f ≡ 0 → ⊥) → f ≡ blockRefusal s zs a b
+module _ (s : Receiver) (zs : List ℤ) (n : Lent) (f : ℕ) (e : f ≡ stateRefusal s) where
+  pub fault-state : (f ≡ 0 → ⊥) → f ≡ blockRefusal s zs n
   unfolding blockRefusal
   fault-state h = e ∙ or-some (stateRefusal s) _ (λ z. h (e ∙ z))
 
-  module _ (z : f ≡ 0) (lent : Bool) (q : lent ≡ (eqb (length zs % 2) 0 && leb (length zs / 2) a) && leb (length zs / 2) b) where
-    pub fault-lent : lent ≡ false → 7 ≡ blockRefusal s zs a b
+  module _ (z : f ≡ 0) (lent : Bool) (q : lent ≡ ((eqb (length zs % 2) 0 && leb (length zs / 2) (n .line)) && leb (length zs / 2) (n .plain)) && leb (length zs / 2) (n .distance)) where
+    pub fault-lent : lent ≡ false → 7 ≡ blockRefusal s zs n
     unfolding blockRefusal
-    fault-lent h = rw (← e, z, ← lent-is s zs a b, ← q, h)
+    fault-lent h = rw (← e, z, ← lent-is s zs n, ← q, h)
 
     module _ (h : lent ≡ true) (r : Bool) (c : r ≡ coordinatesIn zs) where
       i : r ≡ every inRange (pairs zs)
       i =
           let even : Bool = eqb (length zs % 2) 0 in
-          let first : Bool = leb (length zs / 2) a in
-          let lent-so : T ((even && first) && leb (length zs / 2) b) = subst T (sym (sym q ∙ h)) tt in
-          c ∙ each-of zs (eqb→eq (length zs % 2) 0 (and-left even first (and-left (even && first) (leb (length zs / 2) b) lent-so)))
+          let line : Bool = leb (length zs / 2) (n .line) in
+          let plain : Bool = leb (length zs / 2) (n .plain) in
+          let lent-so : T (((even && line) && plain) && leb (length zs / 2) (n .distance)) = subst T (sym (sym q ∙ h)) tt in
+          c ∙ each-of zs (eqb→eq (length zs % 2) 0 (and-left even line (and-left (even && line) plain (and-left ((even && line) && plain) (leb (length zs / 2) (n .distance)) lent-so))))
 
-      pub fault-range : r ≡ false → 8 ≡ blockRefusal s zs a b
+      pub fault-range : r ≡ false → 8 ≡ blockRefusal s zs n
       unfolding blockRefusal
-      fault-range k = rw (← e, z, ← lent-is s zs a b, ← q, h, ← i, k)
+      fault-range k = rw (← e, z, ← lent-is s zs n, ← q, h, ← i, k)
 
       module _ (k : r ≡ true) where
-        room-last : room-number s zs a b ≡ blockRefusal s zs a b
+        room-last : room-number s zs n ≡ blockRefusal s zs n
         unfolding blockRefusal
-        room-last = rw (← e, z, ← lent-is s zs a b, ← q, h, ← i, k, is-true (every (λ p. inSector (decide (s .mode) p)) (pairs zs)) (each-in-a-sector (s .mode) (pairs zs)))
+        room-last = rw (← e, z, ← lent-is s zs n, ← q, h, ← i, k, is-true (every (λ p. inSector (decide (s .mode) p)) (pairs zs)) (each-in-a-sector (s .mode) (pairs zs)))
 
-        pub fault-room : 4294967295 - s .place .0 < length zs / 2 → 16 ≡ blockRefusal s zs a b
+        pub fault-room : 4294967295 - s .place .0 < length zs / 2 → 16 ≡ blockRefusal s zs n
         unfolding hasRoom
         fault-room l =
-            let n = pairs-length zs in
+            let l2 = pairs-length zs in
             ap (λ (t : Bool). need t 16 0) (sym (lt-leb (s .place .0 + length (pairs zs)) 4294967295 (omega arith))) ∙ room-last
 
-        pub fault-none : s .place .0 ≤ 4294967295 → length zs / 2 ≤ 4294967295 - s .place .0 → 0 ≡ blockRefusal s zs a b
+        pub fault-none : s .place .0 ≤ 4294967295 → length zs / 2 ≤ 4294967295 - s .place .0 → 0 ≡ blockRefusal s zs n
         unfolding hasRoom
         fault-none u l =
-            let n = pairs-length zs in
+            let l2 = pairs-length zs in
             ap (λ (t : Bool). need t 16 0) (sym (le-leb (s .place .0 + length (pairs zs)) 4294967295 (omega arith))) ∙ room-last
 
 -- what the answer says
-told : (s : Receiver) (zs : List ℤ) (a b : ℕ) → Told s zs a b (block s zs a b)
+told : (s : Receiver) (zs : List ℤ) (n : Lent) → Told s zs n (block s zs n)
 unfolding block
-told s zs a b = record { number-is = number (blockRefusal s zs a b); state-is = state (blockRefusal s zs a b) }
+told s zs n = record { number-is = number (blockRefusal s zs n); state-is = state (blockRefusal s zs n) }
   where
     number : (n : ℕ) → numberOf (accepted n (Taken (after s (map point (pairs zs)))) (NotTaken n)) ≡ n
     number zero = refl
@@ -269,66 +276,80 @@ told s zs a b = record { number-is = number (blockRefusal s zs a b); state-is = 
     state (suc n) = refl
 
 -- the call
-module _ (s : Receiver) (zs : List ℤ) (l p : List ℕ) where
-  abbrev Done : Block → List ℕ → List ℕ → Type 0
-  Done r l′ p′ = (r ≡ block s zs (length l) (length p)) × (l′ ≡ lineBytes s zs l (length p)) × (p′ ≡ plainBytes s zs (length l) p)
+module _ (s : Receiver) (zs : List ℤ) (b : Parts) where
+  abbrev Done : Block → Parts → Type 0
+  Done r c = (r ≡ block s zs (sizes b)) × (c ≡ partsAfter s zs b)
 
-  with-told : (r : Block) (l′ p′ : List ℕ) → Done r l′ p′ → Done r l′ p′ × Told s zs (length l) (length p) r
-  with-told r l′ p′ d = (d, subst (Told s zs (length l) (length p)) (sym (d .0)) (told s zs (length l) (length p)))
+  with-told : (r : Block) (c : Parts) → Done r c → Done r c × Told s zs (sizes b) r
+  with-told r c d = (d, subst (Told s zs (sizes b)) (sym (d .0)) (told s zs (sizes b)))
 
-  pub refused-law : (f : ℕ) → f ≡ blockRefusal s zs (length l) (length p) → (f ≡ 0 → ⊥) → Done (NotTaken f) l p × Told s zs (length l) (length p) (NotTaken f)
-  unfolding block lineBytes plainBytes
+  pub refused-law : (f : ℕ) → f ≡ blockRefusal s zs (sizes b) → (f ≡ 0 → ⊥) → Done (NotTaken f) b × Told s zs (sizes b) (NotTaken f)
+  unfolding block partsAfter
   refused-law zero e h = absurd (h refl)
   refused-law (suc n) e h =
-      with-told (NotTaken (suc n)) l p (
+      with-told (NotTaken (suc n)) b (
         ap (λ (k : ℕ). accepted k (Taken (after s (map point (pairs zs)))) (NotTaken k)) e,
-        ap (λ (k : ℕ). accepted k (sets l 0 (map lineByte (answersTo s (pairs zs)))) l) e,
-        ap (λ (k : ℕ). accepted k (sets p 0 (map plainByte (answersTo s (pairs zs)))) p) e,
+        ap (λ (k : ℕ). accepted k (wrote b 0 (answersTo s (pairs zs))) b) e,
       )
 
-  pub taken-law : (f : ℕ) (t : Receiver) (l′ p′ : List ℕ) → f ≡ blockRefusal s zs (length l) (length p) → f ≡ 0 → t ≡ after s (map point (pairs zs))
-      → l′ ≡ sets l 0 (map lineByte (answersTo s (pairs zs))) → p′ ≡ sets p 0 (map plainByte (answersTo s (pairs zs)))
-      → Done (Taken t) l′ p′ × Told s zs (length l) (length p) (Taken t)
-  unfolding block lineBytes plainBytes
-  taken-law f t l′ p′ e z et el ep =
-      let q : 0 ≡ blockRefusal s zs (length l) (length p) = sym z ∙ e in
-      with-told (Taken t) l′ p′ (
+  pub taken-law : (f : ℕ) (t : Receiver) (c : Parts) → f ≡ blockRefusal s zs (sizes b) → f ≡ 0 → t ≡ after s (map point (pairs zs))
+      → c ≡ wrote b 0 (answersTo s (pairs zs)) → Done (Taken t) c × Told s zs (sizes b) (Taken t)
+  unfolding block partsAfter
+  taken-law f t c e z et ec =
+      let q : 0 ≡ blockRefusal s zs (sizes b) = sym z ∙ e in
+      with-told (Taken t) c (
         ap Taken et ∙ ap (λ (k : ℕ). accepted k (Taken (after s (map point (pairs zs)))) (NotTaken k)) q,
-        el ∙ ap (λ (k : ℕ). accepted k (sets l 0 (map lineByte (answersTo s (pairs zs)))) l) q,
-        ep ∙ ap (λ (k : ℕ). accepted k (sets p 0 (map plainByte (answersTo s (pairs zs)))) p) q,
+        ec ∙ ap (λ (k : ℕ). accepted k (wrote b 0 (answersTo s (pairs zs))) b) q,
       )
+
+  -- all three parts hold a place for each point
+  pub holds : blockRefusal s zs (sizes b) ≡ 0 → Holds zs b
+  holds z = let h = has-places s zs (sizes b) z in record { line = h .0 .0; plain = h .0 .1; distance = h .1 }
 
 -- THE PASS THAT READS
 
-pub hearing-start : (s : Receiver) (line plain : List ℕ) (zs : List ℤ) (j : ℕ) → j ≤ length zs / 2 → EachAccepted s (map point (left zs j)) → Hearing s line plain zs j s line plain j
-hearing-start s line plain zs j i f =
-    record { on = omega arith; place = i; mode-stays = refl; line-long = refl; plain-long = refl; free = f; state-left = refl; line-left = refl; plain-left = refl }
+pub hearing-start : (s : Receiver) (b : Parts) (zs : List ℤ) (j : ℕ) → j ≤ length zs / 2 → EachAccepted s (map point (left zs j)) → Hearing s b zs j s b j
+hearing-start s b zs j i f =
+    record { on = omega arith; place = i; mode-stays = refl; as-long = record { line = refl; plain = refl; distance = refl }; free = f; state-left = refl; parts-left = refl }
 
-pub hearing-then : {s t u : Receiver} {line plain l p l′ p′ : List ℕ} {zs : List ℤ} {j k m : ℕ} → Hearing s line plain zs j t l p k → Hearing t l p zs k u l′ p′ m
-    → Hearing s line plain zs j u l′ p′ m
-hearing-then a b =
+long-then : {b c d : Parts} → AsLong b c → AsLong c d → AsLong b d
+long-then x y = record { line = y .line ∙ x .line; plain = y .plain ∙ x .plain; distance = y .distance ∙ x .distance }
+
+pub hearing-then : {s t u : Receiver} {b c d : Parts} {zs : List ℤ} {j k m : ℕ} → Hearing s b zs j t c k → Hearing t c zs k u d m → Hearing s b zs j u d m
+hearing-then x y =
     record {
-      on = omega (arith, a .on, b .on);
-      place = b .place;
-      mode-stays = b .mode-stays ∙ a .mode-stays;
-      line-long = b .line-long ∙ a .line-long;
-      plain-long = b .plain-long ∙ a .plain-long;
-      free = b .free;
-      state-left = b .state-left ∙ a .state-left;
-      line-left = b .line-left ∙ a .line-left;
-      plain-left = b .plain-left ∙ a .plain-left;
+      on = omega (arith, x .on, y .on);
+      place = y .place;
+      mode-stays = y .mode-stays ∙ x .mode-stays;
+      as-long = long-then (x .as-long) (y .as-long);
+      free = y .free;
+      state-left = y .state-left ∙ x .state-left;
+      parts-left = y .parts-left ∙ x .parts-left;
     }
 
--- one byte more of line bits, or of data bits
-bytes-step : (f : Answer → ℕ) (t v : Receiver) (p : Point) (ps rest : List Point) (l l′ all : List ℕ) (k x : ℕ) → refusal t (point p) ≡ 0 → v ≡ next t (point p) → ps ≡ p ∷ rest → l′ ≡ set l k x
-    → x ≡ f (answer t (point p)) → sets l k (map f (answersTo t ps)) ≡ all → sets l′ (k + 1) (map f (answersTo v rest)) ≡ all
-bytes-step f t v p ps rest l l′ all k x z u q el ex h =
-    ap₂ (λ (w : Receiver) (m : List ℕ). sets m (k + 1) (map f (answersTo w rest))) u (el ∙ ap (set l k) ex)
-    ∙ ap (λ (n : ℕ). sets (set l k (f (answer t (point p)))) n (map f (answersTo (next t (point p)) rest))) (let z : k + 1 ≡ suc k = omega arith in z)
-    ∙ ap (λ (xs : List Heard). sets l k (map f (answers xs))) (sym (heard-accepted t (point p) (map point rest) z))
-    ∙ ap (λ (qs : List Point). sets l k (map f (answersTo t qs))) (sym q) ∙ h
+-- what one point puts into the parts
+abbrev stepped : Parts → ℕ → Step → Parts
+stepped b k r = parts (set (b .line) k (r .line)) (set (b .plain) k (r .plain)) (set (b .distance) k (r .distance .0))
 
-module _ (s : Receiver) (line plain : List ℕ) (zs : List ℤ) (j : ℕ) (t : Receiver) (l p : List ℕ) (k : ℕ) (h : Hearing s line plain zs j t l p k) where
+long-step : (b c : Parts) (k : ℕ) (r : Step) → c ≡ stepped b k r → AsLong b c
+long-step b c k r e =
+    record {
+      line = ap (λ (p : Parts). length (p .line)) e ∙ length-set (b .line) k (r .line);
+      plain = ap (λ (p : Parts). length (p .plain)) e ∙ length-set (b .plain) k (r .plain);
+      distance = ap (λ (p : Parts). length (p .distance)) e ∙ length-set (b .distance) k (r .distance .0);
+    }
+
+-- one point more in each of them
+parts-step : (t : Receiver) (p : Point) (ps rest : List Point) (c d : Parts) (k : ℕ) (r : Step) → refusal t (point p) ≡ 0 → r ≡ step (answer t (point p)) (next t (point p)) → ps ≡ p ∷ rest
+    → d ≡ stepped c k r → wrote d (k + 1) (answersTo (r .next) rest) ≡ wrote c k (answersTo t ps)
+parts-step t p ps rest c d k r z u q e =
+    ap (λ (b : Parts). wrote b (k + 1) (answersTo (r .next) rest)) e
+    ∙ ap (λ (x : Step). wrote (stepped c k x) (k + 1) (answersTo (x .next) rest)) u
+    ∙ ap (λ (n : ℕ). wrote (stepped c k (step (answer t (point p)) (next t (point p)))) n (answersTo (next t (point p)) rest)) (let z : k + 1 ≡ suc k = omega arith in z)
+    ∙ ap (λ (xs : List Heard). wrote c k (answers xs)) (sym (heard-accepted t (point p) (map point rest) z))
+    ∙ ap (λ (qs : List Point). wrote c k (answersTo t qs)) (sym q)
+
+module _ (s : Receiver) (b : Parts) (zs : List ℤ) (j : ℕ) (t : Receiver) (c : Parts) (k : ℕ) (h : Hearing s b zs j t c k) where
   abbrev here : Point
   here = at (getD zs (2 * k) (pos 0)) (getD zs (2 * k + 1) (pos 0))
 
@@ -336,8 +357,13 @@ module _ (s : Receiver) (line plain : List ℕ) (zs : List ℤ) (j : ℕ) (t : R
   pub hearing-tables : (ring rows : List ℕ) → ring ≡ ringOf (s .mode) → Rows (s .mode) rows → (ring ≡ ringOf (t .mode)) × Rows (t .mode) rows
   hearing-tables ring rows e r = (e ∙ ap ringOf (sym (h .mode-stays)), subst (λ (m : ℕ). Rows m rows) (sym (h .mode-stays)) r)
 
-  pub hearing-here : Hearing t l p zs k t l p k
-  hearing-here = hearing-start t l p zs k (h .place) (h .free)
+  pub hearing-here : Hearing t c zs k t c k
+  hearing-here = hearing-start t c zs k (h .place) (h .free)
+
+  pub hearing-holds : Holds zs b → Holds zs c
+  hearing-holds g =
+      let l = h .as-long in
+      record { line = omega (arith, g .line, l .line); plain = omega (arith, g .plain, l .plain); distance = omega (arith, g .distance, l .distance) }
 
   module _ (i : k < length zs / 2) where
     now-here : left zs k ≡ here ∷ left zs (k + 1)
@@ -346,9 +372,8 @@ module _ (s : Receiver) (line plain : List ℕ) (zs : List ℤ) (j : ℕ) (t : R
     pub hearing-free : refusal t (point here) ≡ 0
     hearing-free = subst (λ (ps : List Point). EachAccepted t (map point ps)) now-here (h .free) .0
 
-    pub hearing-step : (r : Step) (l′ p′ : List ℕ) → r ≡ step (answer t (point here)) (next t (point here)) → l′ ≡ set l k (r .line) → p′ ≡ set p k (r .plain)
-        → length l′ ≡ length line → length p′ ≡ length plain → Hearing s line plain zs j (r .next) l′ p′ (k + 1)
-    hearing-step r l′ p′ e el ep nl np =
+    pub hearing-step : (r : Step) (d : Parts) → r ≡ step (answer t (point here)) (next t (point here)) → d ≡ stepped c k r → Hearing s b zs j (r .next) d (k + 1)
+    hearing-step r d e ed =
         let q = now-here in
         let rest : List Point = left zs (k + 1) in
         let f = subst (λ (ps : List Point). EachAccepted t (map point ps)) q (h .free) in
@@ -357,20 +382,17 @@ module _ (s : Receiver) (line plain : List ℕ) (zs : List ℤ) (j : ℕ) (t : R
           on = omega (arith, h .on);
           place = omega arith;
           mode-stays = ap (λ (v : Receiver). v .mode) u ∙ same-next t (point here) .0 ∙ h .mode-stays;
-          line-long = nl;
-          plain-long = np;
+          as-long = long-then (h .as-long) (long-step c d k r ed);
           free = subst (λ (v : Receiver). EachAccepted v (map point rest)) (sym u) (f .1);
           state-left = ap (λ (v : Receiver). after v (map point rest)) u ∙ ap (λ (ps : List Point). after t (map point ps)) (sym q) ∙ h .state-left;
-          line-left = bytes-step lineByte t (r .next) here (left zs k) rest l l′ _ k (r .line) (f .0) u q el (ap (λ (x : Step). x .line) e) (h .line-left);
-          plain-left = bytes-step plainByte t (r .next) here (left zs k) rest p p′ _ k (r .plain) (f .0) u q ep (ap (λ (x : Step). x .plain) e) (h .plain-left);
+          parts-left = parts-step t here (left zs k) rest c d k r (f .0) e q ed ∙ h .parts-left;
         }
 
-  pub hearing-end : length zs / 2 ≤ k → (t ≡ after s (map point (left zs j))) × (l ≡ sets line j (map lineByte (answersTo s (left zs j)))) × (p ≡ sets plain j (map plainByte (answersTo s (left zs j))))
+  pub hearing-end : length zs / 2 ≤ k → (t ≡ after s (map point (left zs j))) × (c ≡ wrote b j (answersTo s (left zs j)))
   hearing-end i =
       let q : left zs k ≡ [] = pairs-end zs (2 * k) (omega arith) in (
         ap (λ (ps : List Point). after t (map point ps)) (sym q) ∙ h .state-left,
-        ap (λ (ps : List Point). sets l k (map lineByte (answersTo t ps))) (sym q) ∙ h .line-left,
-        ap (λ (ps : List Point). sets p k (map plainByte (answersTo t ps))) (sym q) ∙ h .plain-left,
+        ap (λ (ps : List Point). wrote c k (answersTo t ps)) (sym q) ∙ h .parts-left,
       )
 
 -- WHERE ALL DATA BITS ARE SETTLED
@@ -387,40 +409,44 @@ module _ (s : Receiver) (x n i : ℕ) (re im : ℤ) where
   abbrev now-at : Receiver
   now-at = settledAt s x n i
 
-  pub settled-step : (ring rows : List ℕ) (origin : Bool) (y g : ℕ) (d : Descrambled) → refusal now-at (point (at re im)) ≡ 0 → origin ≡ isOrigin (at re im) → origin ≡ false
+  pub settled-step : (ring rows : List ℕ) (origin : Bool) (y g : ℕ) (d : Descrambled) (u : SquaredUnits) → refusal now-at (point (at re im)) ≡ 0 → origin ≡ isOrigin (at re im) → origin ≡ false
       → ring ≡ ringOf (s .mode) → Rows (s .mode) rows → y ≡ getD ring (ringIndex (s .mode) re im) 0 → g ≡ withRow (s .mode) (getD rows (rowIndex (s .mode) x y) 0) y
-      → d ≡ descrambled (s .mode) (s .role) (register n (capacity (s .mode))) g
-      → _≡_ {A = Step} (record { line = g; plain = d .plain; next = settledAt s y (d .next .bits) (i + 1) }) (step (answer now-at (point (at re im))) (next now-at (point (at re im))))
-  settled-step ring rows origin y g d z eo off er rs ey eg ed =
+      → d ≡ descrambled (s .mode) (s .role) (register n (capacity (s .mode))) g → u .0 ≡ distance (s .mode) y (at re im)
+      → _≡_ {A = Step} (record { line = g; plain = d .plain; distance = u; next = settledAt s y (d .next .bits) (i + 1) }) (step (answer now-at (point (at re im))) (next now-at (point (at re im))))
+  settled-step ring rows origin y g d u z eo off er rs ey eg ed eu =
       let full = after-full (s .mode) (s .role) n g in
-      let u : d .unsettled .0 ≡ 0 = ap (λ (c : Descrambled). c .unsettled .0) ed ∙ full .0 in
+      let none-unsettled : d .unsettled .0 ≡ 0 = ap (λ (c : Descrambled). c .unsettled .0) ed ∙ full .0 in
       let held : capacity (s .mode) ≡ d .next .held .0 = sym (ap (λ (c : Descrambled). c .next .held .0) ed ∙ full .1) in
       let plain : d .plain ≡ 16 * d .unsettled .0 + d .plain = omega arith in
       let place : s .place .0 + (i + 1) ≡ s .place .0 + i + 1 = omega arith in
       let later : Receiver = receiver (s .mode) (s .role) (some y) (d .next) (s .place .0 + i + 1) in
       let same : settledAt s y (d .next .bits) (i + 1) ≡ later = λ k. receiver (s .mode) (s .role) (some y) (register (d .next .bits) (held k)) (place k) in
-      hear-state now-at re im z origin eo ring y _ off er ey
-      ((λ k. record { line = g; plain = plain k; next = same k }) ∙ take-bits now-at later y (some x) x g d rows refl rs eg ed refl)
+      hear-state now-at re im z origin eo ring y u _ off er ey eu
+      ((λ k. record { line = g; plain = plain k; distance = u; next = same k }) ∙ take-bits now-at later y u (some x) x g d rows refl rs eg ed refl)
 
-pub settled-start : (s : Receiver) (line plain : List ℕ) (zs : List ℤ) (j x : ℕ) → s ≡ settledAt s x (s .line .bits) 0 → Hearing s line plain zs j s line plain j
-    → Hearing s line plain zs j (settledAt s x (s .line .bits) (j - j)) line plain j
-settled-start s line plain zs j x e h =
-    subst (λ (t : Receiver). Hearing s line plain zs j t line plain j) (e ∙ ap (settledAt s x (s .line .bits)) (let z : 0 ≡ j - j = omega arith in z)) h
+pub settled-start : (s : Receiver) (b : Parts) (zs : List ℤ) (j x : ℕ) → s ≡ settledAt s x (s .line .bits) 0 → Hearing s b zs j s b j
+    → Hearing s b zs j (settledAt s x (s .line .bits) (j - j)) b j
+settled-start s b zs j x e h =
+    subst (λ (t : Receiver). Hearing s b zs j t b j) (e ∙ ap (settledAt s x (s .line .bits)) (let z : 0 ≡ j - j = omega arith in z)) h
 
 -- the place where they end is in range
-pub settled-room : (s t : Receiver) (line plain l p : List ℕ) (zs : List ℤ) (j k : ℕ) → s .place .0 ≤ 4294967295 → EachAccepted s (map point (left zs j)) → Hearing s line plain zs j t l p k → s .place .0 + (k - j) ≤ 4294967295
-settled-room s t line plain l p zs j k r f h =
+pub settled-room : (s t : Receiver) (b c : Parts) (zs : List ℤ) (j k : ℕ) → s .place .0 ≤ 4294967295 → EachAccepted s (map point (left zs j)) → Hearing s b zs j t c k → s .place .0 + (k - j) ≤ 4294967295
+settled-room s t b c zs j k r f h =
     omega (arith, each-has-place s (left zs j) r f, pairs-length (drop (2 * j) zs), length-drop (2 * j) zs, h .on, h .place)
 
-pub settled-again : (s : Receiver) (line plain l p l′ p′ : List ℕ) (zs : List ℤ) (j k x n : ℕ) → Hearing s line plain zs j (settledAt s x n (k - j)) l p k → k < length zs / 2
-    → (re im : ℤ) → re ≡ getD zs (2 * k) (pos 0) → im ≡ getD zs (2 * k + 1) (pos 0) → (ring rows : List ℕ) (origin : Bool) (y g : ℕ) (d : Descrambled)
+-- the distance from the constellation's point
+pub from-constellation : (m y : ℕ) (re im : ℤ) (points : List Point) (n : ℕ) → SFits w16 re → SFits w16 im → Tabled 16 (sentPoint m) (at (pos 0) (pos 0)) points
+    → n ≡ squaredDistance (at re im) (getD points (y % 16) (at (pos 0) (pos 0))) % 4294967296 → n ≡ distance m y (at re im)
+from-constellation m y re im points n fr fi t q = sent-law m y re im _ n fr fi (t .at (y % 16) (omega arith) ∙ sent-round m y) q
+
+pub settled-again : (s : Receiver) (b c c′ : Parts) (zs : List ℤ) (j k x n : ℕ) → Hearing s b zs j (settledAt s x n (k - j)) c k → k < length zs / 2
+    → (re im : ℤ) → re ≡ getD zs (2 * k) (pos 0) → im ≡ getD zs (2 * k + 1) (pos 0) → (ring rows : List ℕ) (origin : Bool) (y g : ℕ) (d : Descrambled) (u : SquaredUnits)
     → ring ≡ ringOf (s .mode) → Rows (s .mode) rows → origin ≡ isOrigin (at re im) → origin ≡ false → y ≡ getD ring (ringIndex (s .mode) re im) 0
-    → g ≡ withRow (s .mode) (getD rows (rowIndex (s .mode) x y) 0) y → d ≡ descrambled (s .mode) (s .role) (register n (capacity (s .mode))) g
-    → l′ ≡ set l k g → p′ ≡ set p k (d .plain) → length l′ ≡ length line → length p′ ≡ length plain
-    → Hearing s line plain zs j (settledAt s y (d .next .bits) (k + 1 - j)) l′ p′ (k + 1)
-settled-again s line plain l p l′ p′ zs j k x n h i re im ere eim ring rows origin y g d er rs eo off ey eg ed el ep nl np =
+    → g ≡ withRow (s .mode) (getD rows (rowIndex (s .mode) x y) 0) y → d ≡ descrambled (s .mode) (s .role) (register n (capacity (s .mode))) g → u .0 ≡ distance (s .mode) y (at (getD zs (2 * k) (pos 0)) (getD zs (2 * k + 1) (pos 0)))
+    → c′ ≡ parts (set (c .line) k g) (set (c .plain) k (d .plain)) (set (c .distance) k (u .0)) → Hearing s b zs j (settledAt s y (d .next .bits) (k + 1 - j)) c′ (k + 1)
+settled-again s b c c′ zs j k x n h i re im ere eim ring rows origin y g d u er rs eo off ey eg ed eu ec =
     let t : Receiver = settledAt s x n (k - j) in
-    let e = settled-step s x n (k - j) (getD zs (2 * k) (pos 0)) (getD zs (2 * k + 1) (pos 0)) ring rows origin y g d (hearing-free s line plain zs j t l p k h i) (rw (ere, eim) at eo) off er rs
-    (rw (ere, eim) at ey) eg ed in
-    subst (λ (m : ℕ). Hearing s line plain zs j (settledAt s y (d .next .bits) m) l′ p′ (k + 1)) (let z : k - j + 1 ≡ k + 1 - j = omega (arith, h .on) in z)
-    (hearing-step s line plain zs j t l p k h i _ l′ p′ e el ep nl np)
+    let e = settled-step s x n (k - j) (getD zs (2 * k) (pos 0)) (getD zs (2 * k + 1) (pos 0)) ring rows origin y g d u (hearing-free s b zs j t c k h i) (rw (ere, eim) at eo) off er rs
+    (rw (ere, eim) at ey) eg ed eu in
+    subst (λ (m : ℕ). Hearing s b zs j (settledAt s y (d .next .bits) m) c′ (k + 1)) (let z : k - j + 1 ≡ k + 1 - j = omega (arith, h .on) in z)
+    (hearing-step s b zs j t c k h i _ c′ e ec)

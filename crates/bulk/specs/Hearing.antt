@@ -4,11 +4,11 @@ use mathlib.Core.Path.{_≡_}
 use mathlib.Core.List.{List, map}
 use lib.IntN.{ℤ}
 use lib.ListN.{length, drop}
-use lib.Seq.{sets}
 use Rattle.line.specs.declared.Point.{Point}
 use Rattle.line.specs.Mode.{capacity, face}
 use Rattle.line.specs.Point.{pairs}
 use Rattle.coding.specs.Code.{group}
+use Rattle.deciding.specs.declared.SquaredUnits.{SquaredUnits}
 use Rattle.scrambler.specs.declared.Descrambled.{Descrambled}
 use Rattle.scrambler.specs.Register.{register}
 use Rattle.scrambler.specs.Group.{descrambled}
@@ -18,36 +18,45 @@ use Rattle.receiver.specs.declared.Receiver.{Receiver}
 use Rattle.receiver.specs.Receiver.{receiver, point, Answer, stateNext}
 use Rattle.receiver.specs.Calls.{after, EachAccepted}
 use Rattle.bulk.specs.declared.Step.{Step}
-use Rattle.bulk.specs.Block.{lineByte, plainByte, answersTo}
+use Rattle.bulk.specs.Block.{lineByte, plainByte, distanceNumber, answersTo, Parts, wrote}
 
--- one point of a block: the bytes of its answer, and the state after it
+-- one point of a block: the bytes and the number of its answer, and the state after it
 abbrev pub step : Answer → Receiver → Step
-step a t = record { line = lineByte a; plain = plainByte a; next = t }
+step a t = record { line = lineByte a; plain = plainByte a; distance = record { 0 = distanceNumber a }; next = t }
 
--- a point decided as y, as the code has it
-unfoldable pub stateStep : Receiver → Reference → ℕ → Step
-stateStep s none y = record { line = 16; plain = 0; next = stateNext s none y }
-stateStep s (some x) y =
+-- a point decided as y at the distance u, as the code has it
+unfoldable pub stateStep : Receiver → Reference → ℕ → SquaredUnits → Step
+stateStep s none y u = record { line = 16; plain = 0; distance = u; next = stateNext s none y }
+stateStep s (some x) y u =
     let g : ℕ = group (s .mode) (face (s .mode) x) y in
     let d : Descrambled = descrambled (s .mode) (s .role) (s .line) g in
-    record { line = g; plain = 16 * d .unsettled .0 + d .plain; next = stateNext s (some x) y }
+    record { line = g; plain = 16 * d .unsettled .0 + d .plain; distance = u; next = stateNext s (some x) y }
 
 -- the points from number k on
 abbrev pub left : List ℤ → ℕ → List Point
 left zs k = pairs (drop (2 * k) zs)
 
--- from point j on, in the state s and with the lent bytes `line` and `plain`, to point k, the state t and the bytes l and p: what is
--- left to do is the same
-pub record Hearing (s : Receiver) (line plain : List ℕ) (zs : List ℤ) (j : ℕ) (t : Receiver) (l p : List ℕ) (k : ℕ) : Type 0 where
+-- parts of the same lengths
+pub record AsLong (b c : Parts) : Type 0 where
+  pub line : length (c .line) ≡ length (b .line)
+  pub plain : length (c .plain) ≡ length (b .plain)
+  pub distance : length (c .distance) ≡ length (b .distance)
+
+-- from point j on, in the state s and with the lent parts b, to point k, the state t and the parts c: what is left to do is the same
+pub record Hearing (s : Receiver) (b : Parts) (zs : List ℤ) (j : ℕ) (t : Receiver) (c : Parts) (k : ℕ) : Type 0 where
   pub on : j ≤ k
   pub place : k ≤ length zs / 2
   pub mode-stays : t .mode ≡ s .mode
-  pub line-long : length l ≡ length line
-  pub plain-long : length p ≡ length plain
+  pub as-long : AsLong b c
   pub free : EachAccepted t (map point (left zs k))
   pub state-left : after t (map point (left zs k)) ≡ after s (map point (left zs j))
-  pub line-left : sets l k (map lineByte (answersTo t (left zs k))) ≡ sets line j (map lineByte (answersTo s (left zs j)))
-  pub plain-left : sets p k (map plainByte (answersTo t (left zs k))) ≡ sets plain j (map plainByte (answersTo s (left zs j)))
+  pub parts-left : wrote c k (answersTo t (left zs k)) ≡ wrote b j (answersTo s (left zs j))
+
+-- a place for each point in each part
+pub record Holds (zs : List ℤ) (b : Parts) : Type 0 where
+  pub line : length zs / 2 ≤ length (b .line)
+  pub plain : length zs / 2 ≤ length (b .plain)
+  pub distance : length zs / 2 ≤ length (b .distance)
 
 -- a receiver with a reference x and a full register of bits n, i intervals after s
 abbrev pub settledAt : Receiver → ℕ → ℕ → ℕ → Receiver

@@ -1,16 +1,15 @@
 // Many points by one call: the state is looked at once, then the coordinates, then each point is read.
 ghost use mathlib.Core.Path.{_≡_};
 ghost use mathlib.Core.List.{map};
-ghost use Prim.Native.Nat.{_+_, _/_, _<_, _≤_};
-ghost use lib.ListN.{length};
-ghost use lib.Seq.{sets};
+ghost use Prim.Native.Nat.{_+_, _<_, _≤_};
 ghost use Rattle.line.specs.Point.{at, pairs};
 ghost use Rattle.deciding.specs.Sizes.{ringOf};
 ghost use Rattle.coding.specs.Rows.{Rows};
 ghost use Rattle.receiver.specs.Receiver.{receiver, point, lost, refusal, answer, forgotten, next};
 ghost use Rattle.receiver.specs.Calls.{after, EachAccepted};
-ghost use Rattle.bulk.specs.Hearing.{step, stateStep, Hearing, settledAt};
-ghost use Rattle.bulk.specs.Block.{lineByte, plainByte, answersTo, blockRefusal, Told, block, lineBytes, plainBytes};
+ghost use Rattle.bulk.specs.Hearing.{step, stateStep, Hearing, Holds, settledAt};
+ghost use Rattle.bulk.specs.Block.{answersTo, parts, wrote, sizes, blockRefusal, Told, block, partsAfter};
+use deciding::SquaredUnits;
 use receiver::Intervals;
 use receiver::Receiver;
 use receiver::Reference;
@@ -23,10 +22,11 @@ pub enum Block {
     Taken(Receiver),
 }
 
-// The two bytes of a point, and the state after it.
+// The two bytes of a point, its distance, and the state after it.
 pub struct Step {
     pub line: u8,
     pub plain: u8,
+    pub distance: SquaredUnits,
     pub next: Receiver,
 }
 
@@ -44,10 +44,10 @@ fn moved(s: Receiver, reference: Reference, line: Register) -> Receiver
     }
 }
 
-// A point decided as the state y.
-fn take(rows: &[u8; 16], s: Receiver, y: u8) -> Step
+// A point decided as the state y at the distance u.
+fn take(rows: &[u8; 16], s: Receiver, y: u8, u: SquaredUnits) -> Step
     requires { ⌜ Rows (s .mode) (now rows) × (s .place .0 < 4294967295) ⌝ }
-    ensures { λ r. ⌜ r ≡ stateStep s (s .reference) y ⌝ }
+    ensures { λ r. ⌜ r ≡ stateStep s (s .reference) y u ⌝ }
 {
     let reference = s.reference;
     let h = s.line;
@@ -57,6 +57,7 @@ fn take(rows: &[u8; 16], s: Receiver, y: u8) -> Step
             Step {
                 line: 16,
                 plain: 0,
+                distance: u,
                 next,
             }
         }
@@ -66,7 +67,12 @@ fn take(rows: &[u8; 16], s: Receiver, y: u8) -> Step
             let after = d.next;
             let plain = 16 * d.unsettled.0 + d.plain;
             let next = moved(s, Reference::State(y), after);
-            Step { line, plain, next }
+            Step {
+                line,
+                plain,
+                distance: u,
+                next,
+            }
         }
     }
 }
@@ -81,6 +87,7 @@ fn lose(s: Receiver) -> Step
     Step {
         line: 17,
         plain: 0,
+        distance: SquaredUnits(0),
         next,
     }
 }
@@ -93,7 +100,9 @@ fn hear(ring: &[u8; 16], rows: &[u8; 16], s: Receiver, re: i16, im: i16) -> Step
     if deciding::is_origin(re, im) {
         return lose(s);
     }
-    take(rows, s, deciding::state_at(s.mode, ring, re, im))
+    let state = deciding::state_at(s.mode, ring, re, im);
+    let sent = line::sent_point(s.mode, state);
+    take(rows, s, state, deciding::squared_distance(sent, re, im))
 }
 
 // A point of a block, and the state before it.
@@ -130,15 +139,17 @@ fn hear_settled(
     points: &[i16],
     line: &mut [u8],
     plain: &mut [u8],
+    distance: &mut [u32],
     from: usize,
 ) -> Run
-    requires { ⌜ (now ring ≡ ringOf (s .mode)) × Rows (s .mode) (now rows) × (s ≡ settledAt s reference (s .line .bits) 0) × Hearing s (now line) (now plain) (now points) from s (now line) (now plain) from
-        × (length (now points) / 2 ≤ length (now line)) × (length (now points) / 2 ≤ length (now plain)) ⌝ }
-    ensures { λ r. ⌜ Hearing s (now (line .entry)) (now (plain .entry)) (now (points .entry)) from (r .state) (now (line .exit)) (now (plain .exit)) (r .at) ⌝ }
+    requires { ⌜ (now ring ≡ ringOf (s .mode)) × Rows (s .mode) (now rows) × (s ≡ settledAt s reference (s .line .bits) 0) × Hearing s (parts (now line) (now plain) (now distance)) (now points) from s (parts (now line) (now plain) (now distance)) from
+        × Holds (now points) (parts (now line) (now plain) (now distance)) ⌝ }
+    ensures { λ r. ⌜ Hearing s (parts (now (line .entry)) (now (plain .entry)) (now (distance .entry))) (now (points .entry)) from (r .state) (parts (now (line .exit)) (now (plain .exit)) (now (distance .exit))) (r .at) ⌝ }
 {
     let n = points.len() / 2;
     let mut x = reference;
     let mut bits = s.line.bits;
+    let constellation = line::constellation(s.mode);
     let mut k = from;
     while k < n {
         let re = points[2 * k];
@@ -152,8 +163,12 @@ fn hear_settled(
         let y = deciding::state_at(s.mode, ring, re, im);
         let group = coding::group_by(s.mode, rows, x, y);
         let d = scrambler::descramble_next(s.mode, s.role, bits, group);
+        let state = (y as usize) % 16;
+        let sent = constellation[state];
+        let u = deciding::squared_distance(sent, re, im);
         line[k] = group;
         plain[k] = d.plain;
+        distance[k] = u.0;
         bits = d.next.bits;
         x = y;
         k += 1;
@@ -172,18 +187,19 @@ fn hear_on(
     points: &[i16],
     line: &mut [u8],
     plain: &mut [u8],
+    distance: &mut [u32],
     from: usize,
 ) -> Run
-    requires { ⌜ (now ring ≡ ringOf (s .mode)) × Rows (s .mode) (now rows) × Hearing s (now line) (now plain) (now points) from s (now line) (now plain) from
-        × (length (now points) / 2 ≤ length (now line)) × (length (now points) / 2 ≤ length (now plain)) ⌝ }
-    ensures { λ r. ⌜ Hearing s (now (line .entry)) (now (plain .entry)) (now (points .entry)) from (r .state) (now (line .exit)) (now (plain .exit)) (r .at) ⌝ }
+    requires { ⌜ (now ring ≡ ringOf (s .mode)) × Rows (s .mode) (now rows) × Hearing s (parts (now line) (now plain) (now distance)) (now points) from s (parts (now line) (now plain) (now distance)) from
+        × Holds (now points) (parts (now line) (now plain) (now distance)) ⌝ }
+    ensures { λ r. ⌜ Hearing s (parts (now (line .entry)) (now (plain .entry)) (now (distance .entry))) (now (points .entry)) from (r .state) (parts (now (line .exit)) (now (plain .exit)) (now (distance .exit))) (r .at) ⌝ }
 {
     let reference = s.reference;
     match reference {
         Reference::Nothing => Run { at: from, state: s },
         Reference::State(x) => {
             if s.line.held.0 == line::capacity_of(s.mode) {
-                return hear_settled(ring, rows, s, x, points, line, plain, from);
+                return hear_settled(ring, rows, s, x, points, line, plain, distance, from);
             }
             Run { at: from, state: s }
         }
@@ -191,11 +207,16 @@ fn hear_on(
 }
 
 // Points that nothing refuses: one, then those after it whose data bits are settled, and so on.
-fn hear_all(s: Receiver, points: &[i16], line: &mut [u8], plain: &mut [u8]) -> Receiver
-    requires { ⌜ EachAccepted s (map point (pairs (now points))) × (length (now points) / 2 ≤ length (now line)) × (length (now points) / 2 ≤ length (now plain)) ⌝ }
+fn hear_all(
+    s: Receiver,
+    points: &[i16],
+    line: &mut [u8],
+    plain: &mut [u8],
+    distance: &mut [u32],
+) -> Receiver
+    requires { ⌜ EachAccepted s (map point (pairs (now points))) × Holds (now points) (parts (now line) (now plain) (now distance)) ⌝ }
     ensures { λ r. ⌜ (r ≡ after s (map point (pairs (now (points .entry)))))
-        × (now (line .exit) ≡ sets (now (line .entry)) 0 (map lineByte (answersTo s (pairs (now (points .entry))))))
-        × (now (plain .exit) ≡ sets (now (plain .entry)) 0 (map plainByte (answersTo s (pairs (now (points .entry)))))) ⌝ }
+        × (parts (now (line .exit)) (now (plain .exit)) (now (distance .exit)) ≡ wrote (parts (now (line .entry)) (now (plain .entry)) (now (distance .entry))) 0 (answersTo s (pairs (now (points .entry))))) ⌝ }
 {
     let n = points.len() / 2;
     let ring = deciding::ring_of(s.mode);
@@ -206,8 +227,9 @@ fn hear_all(s: Receiver, points: &[i16], line: &mut [u8], plain: &mut [u8]) -> R
         let h = hear(&ring, &rows, t, points[2 * k], points[2 * k + 1]);
         line[k] = h.line;
         plain[k] = h.plain;
+        distance[k] = h.distance.0;
         let next = h.next;
-        let r = hear_on(&ring, &rows, next, points, line, plain, k + 1);
+        let r = hear_on(&ring, &rows, next, points, line, plain, distance, k + 1);
         let state = r.state;
         t = state;
         k = r.at;
@@ -215,16 +237,17 @@ fn hear_all(s: Receiver, points: &[i16], line: &mut [u8], plain: &mut [u8]) -> R
     t
 }
 
-// The number that refuses a block with a and b lent bytes, 0 for none. Number 10 is not looked for: no point is in no sector.
-fn block_fault(s: Receiver, points: &[i16], a: usize, b: usize) -> u8
-    ensures { λ r. ⌜ r ≡ blockRefusal s (now (points .entry)) a b ⌝ }
+// The number that refuses a block with so much lent for line bits, data bits and distances, 0 for none. Number 10 is not looked for:
+// no point is in no sector.
+fn block_fault(s: Receiver, points: &[i16], line: usize, plain: usize, distance: usize) -> u8
+    ensures { λ r. ⌜ r ≡ blockRefusal s (now (points .entry)) (record { line = line; plain = plain; distance = distance }) ⌝ }
 {
     let fault = receiver::state_fault(s);
     if fault != 0 {
         return fault;
     }
     let n = points.len() / 2;
-    if (points.len() % 2 == 0) & (n <= a) & (n <= b) {
+    if (points.len() % 2 == 0) & (n <= line) & (n <= plain) & (n <= distance) {
         if line::all_in_range(points) {
             if n <= (4294967295 - s.place.0) as usize {
                 return 0;
@@ -236,16 +259,21 @@ fn block_fault(s: Receiver, points: &[i16], a: usize, b: usize) -> u8
     7
 }
 
-// Takes points, re and im in turn, all or none, and writes the two bytes of each.
-pub fn receive_points(s: Receiver, points: &[i16], line: &mut [u8], plain: &mut [u8]) -> Block
-    ensures { λ r. ⌜ (r ≡ block s (now (points .entry)) (length (now (line .entry))) (length (now (plain .entry))))
-        × (now (line .exit) ≡ lineBytes s (now (points .entry)) (now (line .entry)) (length (now (plain .entry))))
-        × (now (plain .exit) ≡ plainBytes s (now (points .entry)) (length (now (line .entry))) (now (plain .entry))) ⌝ }
-    ensures { λ r. ⌜ Told s (now (points .entry)) (length (now (line .entry))) (length (now (plain .entry))) r ⌝ }
+// Takes points, re and im in turn, all or none, and writes the two bytes and the squared distance of each.
+pub fn receive_points(
+    s: Receiver,
+    points: &[i16],
+    line: &mut [u8],
+    plain: &mut [u8],
+    distance: &mut [u32],
+) -> Block
+    ensures { λ r. ⌜ (r ≡ block s (now (points .entry)) (sizes (parts (now (line .entry)) (now (plain .entry)) (now (distance .entry)))))
+        × (parts (now (line .exit)) (now (plain .exit)) (now (distance .exit)) ≡ partsAfter s (now (points .entry)) (parts (now (line .entry)) (now (plain .entry)) (now (distance .entry)))) ⌝ }
+    ensures { λ r. ⌜ Told s (now (points .entry)) (sizes (parts (now (line .entry)) (now (plain .entry)) (now (distance .entry)))) r ⌝ }
 {
-    let fault = block_fault(s, points, line.len(), plain.len());
+    let fault = block_fault(s, points, line.len(), plain.len(), distance.len());
     if fault != 0 {
         return Block::Refused(fault);
     }
-    Block::Taken(hear_all(s, points, line, plain))
+    Block::Taken(hear_all(s, points, line, plain, distance))
 }

@@ -2,23 +2,28 @@
 -- point its state, and a turn of the point by 90° turns the answer. Assumes nothing.
 use mathlib.Core.Path.{_≡_, refl, sym, ap, ap₂, _∙_, subst}
 use mathlib.Core.Bool.{Bool, true, false, _&&_, cond}
+use mathlib.Core.List.{map}
 use Prim.Native.Nat.{ℕ, zero, suc, _+_, _*_, _-_, _%_, _<_, _≤_}
 use native.Mathlib.Omega.{arith}
 use native.Mathlib.Decide.{decLe}
 use lib.Dec.{T, eqb, leb, eqb→eq}
 use lib.IntN.{ℤ, pos, negsuc, natAbs, _+ℤ_, _*ℤ_}
+use lib.ListN.{getD}
 use lib.Signed.{ltZ}
 use Rattle.line.specs.declared.Point.{Point}
-use Rattle.deciding.specs.declared.Decision.{Decision}
-use Rattle.deciding.specs.declared.Decision.the-variants.{State, Origin, NoSector}
 use Rattle.line.specs.Table.{every}
 use Rattle.line.specs.Mode.{isMode, states, isState, quadrant, nextQuadrant, step, turn, turns, quarterSteps}
 use Rattle.line.specs.Point.{at, isOrigin, turned, turnedBy, sent27, levels32, sent32, sentPoint}
-use Rattle.deciding.specs.Decide.{square, inFirst, sector, outer, first, turnedAnswer, quarters, decideBy, decide}
-use Rattle.deciding.specs.Laws.{InOneRegion, DecidedState, DecidedSent, TurnDecides, numberOf, statesOf, lostOf, Told}
+use Rattle.deciding.specs.Decide.{Region, State, Origin, NoSector, square, inFirst, sector, outer, first, turnedAnswer, quarters, decideBy, decide}
+use Rattle.deciding.specs.declared.Decision.{Decision}
+use Rattle.deciding.specs.declared.Decision.the-variants.{State as DecidedAs, Origin as AtOrigin}
+use Rattle.deciding.specs.declared.SquaredUnits.{SquaredUnits}
+use Rattle.deciding.specs.Distance.{distance, measured, decision}
+use Rattle.deciding.specs.Sizes.{ringOf, ringIndex}
+use Rattle.deciding.specs.Laws.{InOneRegion, DecidedState, DecidedSent, TurnDecides, statesOf, distancesOf, lostOf, Told}
 use Rattle.line.proofs.TableLaws.{below-at}
 use Rattle.line.proofs.StateLaws.{mode-cases, state-at, of-state, turns-state, turns-add, four-quarters}
-use Rattle.deciding.proofs.RingLaws.{by-ring}
+use Rattle.deciding.proofs.RingLaws.{by-ring, looked-up, origin-none}
 use Rattle.deciding.proofs.RegionLaws.{Turn, before, turn-four, origin-turned, turn-before, turn-by, turn-decide, off-turned, base, Sloped, sloped-1, sloped-3, turn-within, turn-past, turn-2, turn-4, turn-4-axis}
 
 -- THE REGIONS
@@ -81,12 +86,12 @@ in-one-region m z o = let i = region-of m z o in (i .by, i .small, at-each (i .t
 -- THE ANSWER IS A STATE
 
 -- a state of the mode, or no sector
-abbrev pub Off : ℕ → Decision → Type 0
+abbrev pub Off : ℕ → Region → Type 0
 Off m (State y) = T (isState m y)
 Off m Origin = ⊥
 Off m NoSector = Unit {0}
 
-either : (m : ℕ) (b : Bool) (c d : Decision) → Off m c → Off m d → Off m (cond b c d)
+either : (m : ℕ) (b : Bool) (c d : Region) → Off m c → Off m d → Off m (cond b c d)
 either m true c d p q = p
 either m false c d p q = q
 
@@ -96,7 +101,7 @@ sector-off z =
     let s : ℤ = square (z .re +ℤ z .im) in
     let x : ℤ = pos 2 *ℤ square (z .re) in
     let y : ℤ = pos 2 *ℤ square (z .im) in
-    let between : Decision = cond (ltZ x s && ltZ y s) (State 1) NoSector in
+    let between : Region = cond (ltZ x s && ltZ y s) (State 1) NoSector in
     either 2 (ltZ s x) (State 0) (cond (ltZ s y) (State 2) between) tt
     (either 2 (ltZ s y) (State 2) between tt (either 2 (ltZ x s && ltZ y s) (State 1) NoSector tt tt))
 
@@ -112,7 +117,7 @@ first-off =
     mode-cases (λ m. (z : Point) → Off m (first m z)) (unfold first isState states in (λ z. tt)) (unfold first in sector-off)
     (unfold first isState states in (λ z. tt)) (unfold first outer in (λ z. corner-state (leb 2048 (natAbs (z .re))) (leb 2048 (natAbs (z .im)))))
 
-turned-off : (m : ℕ) → T (isMode m) → (k : ℕ) (d : Decision) → Off m d → Off m (turnedAnswer m k d)
+turned-off : (m : ℕ) → T (isMode m) → (k : ℕ) (d : Region) → Off m d → Off m (turnedAnswer m k d)
 unfolding turnedAnswer
 turned-off m hm k (State y) h = turns-state m hm (k * quarterSteps m) y h
 turned-off m hm k Origin h = h
@@ -125,7 +130,7 @@ decide-off m hm z o =
     let p : Point = turnedBy ((4 - k) % 4) z in
     subst (λ (b : Bool). Off m (cond b Origin (turnedAnswer m k (first m p)))) (sym o) (turned-off m hm k (first m p) (first-off m hm p))
 
-at-origin : (m : ℕ) (z : Point) → isOrigin z ≡ true → decide m z ≡ Origin
+pub at-origin : (m : ℕ) (z : Point) → isOrigin z ≡ true → decide m z ≡ Origin
 unfolding decide
 at-origin m z e = ap (λ (b : Bool). cond b Origin (decideBy m (quarters m z) z)) e
 
@@ -139,12 +144,12 @@ decided-state m z s hm e = go (isOrigin z) refl
 -- A SENT POINT
 
 -- the answer is this state
-abbrev is : Decision → ℕ → Bool
+abbrev is : Region → ℕ → Bool
 is (State s) x = eqb s x
 is Origin x = false
 is NoSector x = false
 
-is-state : (d : Decision) (x : ℕ) → T (is d x) → d ≡ State x
+is-state : (d : Region) (x : ℕ) → T (is d x) → d ≡ State x
 is-state (State s) x t = ap State (eqb→eq s x t)
 is-state Origin x t = absurd t
 is-state NoSector x t = absurd t
@@ -159,14 +164,14 @@ decided-sent m x hm hx = is-state (decide m (sentPoint m x)) x (state-at m (λ z
 
 -- TURNS
 
-answers-add : (m i j : ℕ) (d : Decision) → turnedAnswer m i (turnedAnswer m j d) ≡ turnedAnswer m (i + j) d
+answers-add : (m i j : ℕ) (d : Region) → turnedAnswer m i (turnedAnswer m j d) ≡ turnedAnswer m (i + j) d
 unfolding turnedAnswer
 answers-add m i j (State s) =
     ap State (turns-add m (i * quarterSteps m) (j * quarterSteps m) s ∙ ap (λ (n : ℕ). turns m n s) (let e : i * quarterSteps m + j * quarterSteps m ≡ (i + j) * quarterSteps m = omega arith in e))
 answers-add m i j Origin = refl
 answers-add m i j NoSector = refl
 
-answers-whole : (m : ℕ) (d : Decision) → T (isMode m) → Off m d → turnedAnswer m 4 d ≡ turnedAnswer m 0 d
+answers-whole : (m : ℕ) (d : Region) → T (isMode m) → Off m d → turnedAnswer m 4 d ≡ turnedAnswer m 0 d
 unfolding turnedAnswer
 answers-whole m (State s) hm v =
     ap State (ap (λ (n : ℕ). turns m n s) (four-quarters m hm) ∙ of-state m s hm v .whole ∙ ap (λ (n : ℕ). turns m n s) (let e : 0 ≡ 0 * quarterSteps m = omega arith in e))
@@ -174,7 +179,7 @@ answers-whole m Origin hm v = absurd v
 answers-whole m NoSector hm v = refl
 
 -- one more turn, after k of them
-next-answer : (m k : ℕ) (d : Decision) → T (isMode m) → Off m d → k < 4 → turnedAnswer m ((k + 1) % 4) d ≡ turnedAnswer m 1 (turnedAnswer m k d)
+next-answer : (m k : ℕ) (d : Region) → T (isMode m) → Off m d → k < 4 → turnedAnswer m ((k + 1) % 4) d ≡ turnedAnswer m 1 (turnedAnswer m k d)
 next-answer m k d hm v h = go (decLe k 2)
   where
     go : Dec (k ≤ 2) → turnedAnswer m ((k + 1) % 4) d ≡ turnedAnswer m 1 (turnedAnswer m k d)
@@ -214,12 +219,32 @@ turn-decides m z hm = go (isOrigin z) refl
 
 -- WHAT IS TOLD
 
-lost-told : (m : ℕ) (p : Point) → lostOf (decide m p) ≡ cond (isOrigin p) 1 0
+lost-told : (m : ℕ) (p : Point) → lostOf (decision m p) ≡ cond (isOrigin p) 1 0
+unfolding decision
 lost-told m p = go (isOrigin p) refl
   where
-    go : (b : Bool) → isOrigin p ≡ b → lostOf (decide m p) ≡ cond (isOrigin p) 1 0
-    go true o = ap lostOf (at-origin m p o) ∙ sym (ap (λ (b : Bool). cond b 1 0) o)
-    go false o = ap lostOf (sym (by-ring m (p .re) (p .im) o)) ∙ sym (ap (λ (b : Bool). cond b 1 0) o)
+    go : (b : Bool) → isOrigin p ≡ b → lostOf (measured m p (decide m p)) ≡ cond (isOrigin p) 1 0
+    go true o = ap (λ (d : Region). lostOf (measured m p d)) (at-origin m p o) ∙ sym (ap (λ (b : Bool). cond b 1 0) o)
+    go false o = ap (λ (d : Region). lostOf (measured m p d)) (sym (by-ring m (p .re) (p .im) o)) ∙ sym (ap (λ (b : Bool). cond b 1 0) o)
 
-pub told : (m : ℕ) (p : Point) (r : Decision) → r ≡ decide m p → (r ≡ decide m p) × Told m p r
-told m p r e = (e, record { number-is = ap numberOf e; state-is = ap statesOf e; lost-is = ap lostOf e ∙ lost-told m p })
+distance-told : (m : ℕ) (p : Point) (d : Region) → distancesOf (measured m p d) ≡ map (λ (s : ℕ). distance m s p) (statesOf (measured m p d))
+distance-told m p (State s) = refl
+distance-told m p Origin = refl
+distance-told m p NoSector = refl
+
+told : (m : ℕ) (p : Point) → Told m p (decision m p)
+unfolding decision
+told m p = record { number-is = refl; state-is = refl; distance-is = distance-told m p (decide m p); lost-is = lost-told m p }
+
+-- the ways of the code: at the origin, and off it
+module _ (m : ℕ) (re im : ℤ) where
+  both : (d : Region) (r : Decision) → r ≡ measured m (at re im) d → d ≡ decide m (at re im) → (r ≡ decision m (at re im)) × Told m (at re im) r
+  unfolding decision
+  both d r q e = let s : r ≡ decision m (at re im) = q ∙ ap (measured m (at re im)) e in (s, subst (Told m (at re im)) (sym s) (told m (at re im)))
+
+  pub told-origin : isOrigin (at re im) ≡ true → (AtOrigin ≡ decision m (at re im)) × Told m (at re im) AtOrigin
+  told-origin o = both Origin AtOrigin refl (origin-none m re im o)
+
+  pub told-state : (s : ℕ) (d : SquaredUnits) → s ≡ getD (ringOf m) (ringIndex m re im) 0 → d .0 ≡ distance m s (at re im) → isOrigin (at re im) ≡ false
+      → (DecidedAs s d ≡ decision m (at re im)) × Told m (at re im) (DecidedAs s d)
+  told-state s d e q o = both (State s) (DecidedAs s d) (ap (λ (n : ℕ). DecidedAs s (record { 0 = n })) q) (looked-up m re im (ringOf m) s refl e o)

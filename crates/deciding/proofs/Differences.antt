@@ -21,10 +21,10 @@ leb-same x y u v f g = go (decLe x y)
         go′ (yes k) = absurd (h (g k))
         go′ (no k) = omega (arith, k)
 
-sub-pos : (a b : ℕ) → b ≤ a → subℕ a b ≡ pos (a - b)
+pub sub-pos : (a b : ℕ) → b ≤ a → subℕ a b ≡ pos (a - b)
 sub-pos a b h = ap (λ (t : Bool). cond t (negsuc (b - suc a)) (pos (a - b))) (le-ltb a b h)
 
-sub-neg : (a b : ℕ) → a < b → subℕ a b ≡ negsuc (b - suc a)
+pub sub-neg : (a b : ℕ) → a < b → subℕ a b ≡ negsuc (b - suc a)
 sub-neg a b h = ap (λ (t : Bool). cond t (negsuc (b - suc a)) (pos (a - b))) (lt-ltb a b h)
 
 -- two ways to be one difference

@@ -7,3 +7,5 @@ pub mod Squares
 pub mod RingLaws
 pub mod SectorLaws
 pub mod DecideLaws
+pub mod DistanceLaws
+pub mod RangeLaws

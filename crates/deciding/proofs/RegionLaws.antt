@@ -123,14 +123,14 @@ module _ (m a b : ℕ) where
   is-3 = ap turned is-2 ∙ ap (λ (x : ℤ). at x (subℕ 0 (suc a))) (negated-difference 0 b)
 
 -- the first region as two tests of differences re = a - b and im = c - d
-record Region (m : ℕ) : Type 0 where
+record FirstRegion (m : ℕ) : Type 0 where
   p : ℕ → ℕ → ℕ → ℕ → ℕ
   q : ℕ → ℕ → ℕ → ℕ → ℕ
   r : ℕ → ℕ → ℕ → ℕ → ℕ
   s : ℕ → ℕ → ℕ → ℕ → ℕ
   are : (a b c d : ℕ) → inFirst m (at (subℕ a b) (subℕ c d)) ≡ leb (p a b c d) (q a b c d) && leb (r a b c d) (s a b c d)
 
-module _ (m : ℕ) (k : Region m) (z : Point) (a b c d : ℕ) (e : z ≡ at (subℕ a b) (subℕ c d)) where
+module _ (m : ℕ) (k : FirstRegion m) (z : Point) (a b c d : ℕ) (e : z ≡ at (subℕ a b) (subℕ c d)) where
   inside : k .p a b c d ≤ k .q a b c d → k .r a b c d ≤ k .s a b c d → inFirst m z ≡ true
   inside f g = ap (inFirst m) e ∙ k .are a b c d ∙ ap₂ _&&_ (le-leb _ _ f) (le-leb _ _ g)
 
@@ -141,7 +141,7 @@ module _ (m : ℕ) (k : Region m) (z : Point) (a b c d : ℕ) (e : z ≡ at (sub
   not-r f = ap (inFirst m) e ∙ k .are a b c d ∙ ap (λ (t : Bool). leb (k .p a b c d) (k .q a b c d) && t) (lt-leb _ _ f) ∙ and-false (leb (k .p a b c d) (k .q a b c d))
 
 -- mode 2: im ≥ 0 and re > 0
-abbrev region-2 : (m : ℕ) → m ≡ 2 → Region m
+abbrev region-2 : (m : ℕ) → m ≡ 2 → FirstRegion m
 region-2 m h =
     record {
       p = λ a b c d. 0 + d;
@@ -152,7 +152,7 @@ region-2 m h =
     }
 
 -- mode 4: quadrant I
-abbrev region-4 : (m : ℕ) → 1 < m → (m ≡ 2 → ⊥) → (m ≡ 3 → ⊥) → Region m
+abbrev region-4 : (m : ℕ) → 1 < m → (m ≡ 2 → ⊥) → (m ≡ 3 → ⊥) → FirstRegion m
 region-4 m h f g =
     record {
       p = λ a b c d. 0 + b;
@@ -184,7 +184,7 @@ sloped-3 m h a b c d =
     (leb-same (3 * c + b + (3 * b + d)) (3 * a + c + (3 * d + a)) (c + 2 * b) (2 * a + d) (λ l. omega arith) (λ l. omega arith))
 
 module _ (m n a b : ℕ) (e : Sloped m n) where
-  abbrev sloped : Region m
+  abbrev sloped : FirstRegion m
   sloped =
       record {
         p = λ a b c d. suc (b + n * d);

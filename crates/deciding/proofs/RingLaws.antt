@@ -13,12 +13,10 @@ use lib.IntN.{ℤ, pos, negsuc, natAbs}
 use lib.Signed.{ltZ}
 use mir.Syntax.{w16}
 use mir.Val.{toZ, ofZ}
-use Rattle.deciding.specs.declared.Decision.{Decision}
-use Rattle.deciding.specs.declared.Decision.the-variants.{State, Origin}
 use Rattle.line.specs.Table.{below, every}
 use Rattle.line.specs.Mode.{byMode}
 use Rattle.line.specs.Point.{at, isOrigin}
-use Rattle.deciding.specs.Decide.{decide}
+use Rattle.deciding.specs.Decide.{Region, State, Origin, decide}
 use Rattle.deciding.specs.Sizes.{bitOf, belowOf, quadrantOf, sq, farOf, ringOf, ringIndex}
 use Rattle.line.proofs.ByMode.{mode-4}
 use Rattle.line.proofs.TableLaws.{pairs-below}
@@ -166,7 +164,7 @@ below-positive n true = le-ltb (suc n) 1 (omega arith)
 below-positive n false = le-ltb (suc n) 0 (omega arith)
 
 -- the state of a point in the quadrant q, from that of turns of one with re > 0 and im ≥ 0
-from-arc : (m q x y : ℕ) (re im : ℤ) (d : Decision) → quadrantOf re im ≡ q → natAbs re ≡ x → natAbs im ≡ y → d ≡ State (getD (ringOf m) (q + (2 * bitOf (farOf m y x) + bitOf (farOf m x y))) 0) → State (getD (ringOf m) (ringIndex m re im) 0) ≡ d
+from-arc : (m q x y : ℕ) (re im : ℤ) (d : Region) → quadrantOf re im ≡ q → natAbs re ≡ x → natAbs im ≡ y → d ≡ State (getD (ringOf m) (q + (2 * bitOf (farOf m y x) + bitOf (farOf m x y))) 0) → State (getD (ringOf m) (ringIndex m re im) 0) ≡ d
 unfolding ringIndex
 from-arc m q x y re im d eq ex ey e = rw (eq, ex, ey) (sym e)
 
@@ -182,8 +180,11 @@ by-ring m (negsuc x) (negsuc y) e = from-arc m 12 (suc x) (suc y) _ _ _ (simp be
 by-ring m (pos zero) (negsuc y) e = from-arc m 12 0 (suc y) _ _ _ (simp (below-zero, below-negative)) refl refl (arc-decide m 3 y 0 (omega arith) ∙ arc-on m 3 y (omega arith))
 by-ring m (pos (suc x)) (negsuc y) e = from-arc m 8 (suc x) (suc y) _ _ _ (simp (below-positive, below-negative)) refl refl (arc-decide m 3 y (suc x) (omega arith) ∙ arc-in m 3 y x (omega arith))
 
+pub ring-law : (m : ℕ) (re im : ℤ) (ring : List ℕ) (n : ℕ) → n ≡ getD ring (ringIndex m re im) 0 → ring ≡ ringOf m → n ≡ getD (ringOf m) (ringIndex m re im) 0
+ring-law m re im ring n q e = q ∙ ap (λ (l : List ℕ). getD l (ringIndex m re im) 0) e
+
 pub looked-up : (m : ℕ) (re im : ℤ) (ring : List ℕ) (n : ℕ) → ring ≡ ringOf m → n ≡ getD ring (ringIndex m re im) 0 → isOrigin (at re im) ≡ false → State n ≡ decide m (at re im)
-looked-up m re im ring n e q o = ap State (q ∙ ap (λ (l : List ℕ). getD l (ringIndex m re im) 0) e) ∙ by-ring m re im o
+looked-up m re im ring n e q o = ap State (ring-law m re im ring n q e) ∙ by-ring m re im o
 
 pub origin-none : (m : ℕ) (re im : ℤ) → isOrigin (at re im) ≡ true → Origin ≡ decide m (at re im)
 unfolding decide

@@ -3,8 +3,8 @@ use mathlib.Core.Path.{_≡_, refl, _∙_}
 use mathlib.Core.Bool.{Bool, true, false}
 use Prim.Native.Nat.{ℕ}
 use native.Mathlib.Omega.{arith}
+use Rattle.deciding.specs.Decide.{State, Origin, NoSector}
 use Rattle.line.specs.declared.Point.{Point}
-use Rattle.deciding.specs.declared.Decision.the-variants.{State, Origin, NoSector}
 use Rattle.line.specs.Point.{isOrigin}
 use Rattle.deciding.specs.Laws.{EachInASector}
 use Rattle.deciding.proofs.RingLaws.{by-ring, origin-none}

@@ -9,12 +9,10 @@ use borrow.Author.Tests.{le-leb, lt-leb, ne-eqb}
 use lib.Dec.{T, eqb, leb, ltb, eqb→eq}
 use lib.ListN.{getD}
 use Rattle.line.specs.declared.Point.{Point}
-use Rattle.deciding.specs.declared.Decision.{Decision}
-use Rattle.deciding.specs.declared.Decision.the-variants.{State, NoSector}
 use Rattle.line.specs.Table.{below, every}
 use Rattle.line.specs.Mode.{turn, turns, step, quarterSteps, quadrant, nextQuadrant}
 use Rattle.line.specs.Point.{isOrigin, turnedBy}
-use Rattle.deciding.specs.Decide.{sector, outer, first, turnedAnswer, decide}
+use Rattle.deciding.specs.Decide.{Region, State, NoSector, sector, outer, first, turnedAnswer, decide}
 use Rattle.deciding.specs.Sizes.{sq}
 use Rattle.deciding.proofs.Arcs.{arc, state1, ring3, state3, decided2, ring4, outerSize, state4, decidedArc}
 use Rattle.line.proofs.ByMode.{mode-1, mode-2, mode-3, mode-4}
@@ -43,7 +41,7 @@ module _ (m k a b : ℕ) (l : k < 4) where
   off = ap (λ (t : Bool). t && eqb b 0) (not-zero a)
 
   -- from the turn in the first region to the answer
-  reach : (j i : ℕ) (d x : Decision) → j < 4 → Turn m (base m a b) j → (k + 4 - j) % 4 ≡ i → first m (turnedBy j (base m a b)) ≡ d
+  reach : (j i : ℕ) (d x : Region) → j < 4 → Turn m (base m a b) j → (k + 4 - j) % 4 ≡ i → first m (turnedBy j (base m a b)) ≡ d
       → turnedAnswer m i d ≡ x → decide m (turnedBy k (base m a b)) ≡ x
   reach j i d x p t e f g = turned-decide m k (base m a b) j l p t off ∙ ap₂ (turnedAnswer m) e f ∙ g
 

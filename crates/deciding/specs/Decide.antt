@@ -5,10 +5,14 @@ use lib.Dec.{leb}
 use lib.IntN.{ℤ, pos, negℤ, natAbs, _+ℤ_, _-ℤ_, _*ℤ_}
 use lib.Signed.{ltZ, leZ}
 use Rattle.line.specs.declared.Point.{Point}
-use Rattle.deciding.specs.declared.Decision.{Decision}
-use Rattle.deciding.specs.declared.Decision.the-variants.{State, Origin, NoSector}
 use Rattle.line.specs.Mode.{byMode, turns, quarterSteps}
 use Rattle.line.specs.Point.{isOrigin, turnedBy}
+
+-- where a point lies: in the region of a state, at the origin, or, in mode 2, in none of the eight sectors
+pub data Region : Type 0 where
+  State : ℕ → Region
+  Origin : Region
+  NoSector : Region
 
 -- more than -45° and at most +45° from a direction: x along it, y across it
 abbrev pub within45 : ℤ → ℤ → Bool
@@ -27,7 +31,7 @@ abbrev pub square : ℤ → ℤ
 square x = x *ℤ x
 
 -- Mode 2, im ≥ 0 and re > 0: nearer 0° than 45°, nearer 90° than 45°, nearer 45° than both, or on an edge
-unfoldable pub sector : Point → Decision
+unfoldable pub sector : Point → Region
 sector z =
     let s : ℤ = square (z .re +ℤ z .im) in
     let x : ℤ = pos 2 *ℤ square (z .re) in
@@ -40,11 +44,11 @@ unfoldable pub outer : ℤ → ℕ
 outer x = cond (leb 2048 (natAbs x)) 1 0
 
 -- the answer for a point of the first region
-unfoldable pub first : ℕ → Point → Decision
+unfoldable pub first : ℕ → Point → Region
 first m z = byMode m (State 0) (sector z) (State 13) (State (12 + outer (z .re) + 2 * outer (z .im)))
 
 -- an answer turned by k turns of 90°
-unfoldable pub turnedAnswer : ℕ → ℕ → Decision → Decision
+unfoldable pub turnedAnswer : ℕ → ℕ → Region → Region
 turnedAnswer m k (State s) = State (turns m (k * quarterSteps m) s)
 turnedAnswer m k Origin = Origin
 turnedAnswer m k NoSector = NoSector
@@ -54,15 +58,15 @@ unfoldable pub quarters : ℕ → Point → ℕ
 quarters m z = cond (inFirst m z) 0 (cond (inFirst m (turnedBy 3 z)) 1 (cond (inFirst m (turnedBy 2 z)) 2 3))
 
 -- the point is turned back into the first region, and its answer turned forth
-abbrev pub decideBy : ℕ → ℕ → Point → Decision
+abbrev pub decideBy : ℕ → ℕ → Point → Region
 decideBy m k z = turnedAnswer m k (first m (turnedBy ((4 - k) % 4) z))
 
 -- the origin is no state
-unfoldable pub decide : ℕ → Point → Decision
+unfoldable pub decide : ℕ → Point → Region
 decide m z = cond (isOrigin z) Origin (decideBy m (quarters m z) z)
 
 -- the state that a point is decided as; of another answer 0, which is not asked for
-abbrev pub stateIn : Decision → ℕ
+abbrev pub stateIn : Region → ℕ
 stateIn (State y) = y
 stateIn Origin = 0
 stateIn NoSector = 0

@@ -1,40 +1,50 @@
--- What `decide` tells in document 01's terms, and what holds of it: the statements, whose proofs are in proofs/DecideLaws
--- and proofs/SectorLaws.
-use Prim.Native.Nat.{ℕ, _<_}
+-- What `decide` tells in document 01's and 02's terms, and what holds of it: the statements, whose proofs are in proofs/DecideLaws,
+-- proofs/SectorLaws and proofs/DistanceLaws.
+use Prim.Native.Nat.{ℕ, _<_, _≤_}
 use mathlib.Core.Path.{_≡_}
 use mathlib.Core.Bool.{false, cond}
-use mathlib.Core.List.{List, [], _∷_}
+use mathlib.Core.List.{List, [], _∷_, map}
+use mathlib.Core.Logic.{_↔_}
 use lib.Dec.{T, eqb}
+use lib.IntN.{pos}
 use Rattle.line.specs.declared.Point.{Point}
 use Rattle.deciding.specs.declared.Decision.{Decision}
-use Rattle.deciding.specs.declared.Decision.the-variants.{State, Origin, NoSector}
-use Rattle.line.specs.Mode.{isMode, isState}
-use Rattle.line.specs.Point.{isOrigin, turned, turnedBy, sentPoint}
-use Rattle.deciding.specs.Decide.{inFirst, turnedAnswer, decide}
+use Rattle.deciding.specs.declared.Decision.the-variants.{State as DecidedAs, Origin as AtOrigin, NoSector as InNoSector}
+use Rattle.line.specs.Mode.{isMode, isState, turns, quarterSteps}
+use Rattle.line.specs.Point.{at, inRange, isOrigin, turned, turnedBy, sentPoint}
+use Rattle.deciding.specs.Decide.{State, NoSector, inFirst, turnedAnswer, decide}
+use Rattle.deciding.specs.Distance.{distance, decision}
 
 -- "where an answer is an enum, a definition gives this paper's number and values for each of the enum's cases"
 
 -- 0, or number 10: a mode 2 point off the origin in none of the eight sectors
 abbrev pub numberOf : Decision → ℕ
-numberOf (State s) = 0
-numberOf Origin = 0
-numberOf NoSector = 10
+numberOf (DecidedAs s d) = 0
+numberOf AtOrigin = 0
+numberOf InNoSector = 10
 
 -- the state, if the point is one
 abbrev pub statesOf : Decision → List ℕ
-statesOf (State s) = s ∷ []
-statesOf Origin = []
-statesOf NoSector = []
+statesOf (DecidedAs s d) = s ∷ []
+statesOf AtOrigin = []
+statesOf InNoSector = []
+
+-- the squared distance to its sent point, in units
+abbrev pub distancesOf : Decision → List ℕ
+distancesOf (DecidedAs s d) = d .0 ∷ []
+distancesOf AtOrigin = []
+distancesOf InNoSector = []
 
 -- the intervals that are lost: the origin is a gap of one
 abbrev pub lostOf : Decision → ℕ
-lostOf (State s) = 0
-lostOf Origin = 1
-lostOf NoSector = 0
+lostOf (DecidedAs s d) = 0
+lostOf AtOrigin = 1
+lostOf InNoSector = 0
 
 pub record Told (m : ℕ) (p : Point) (r : Decision) : Type 0 where
-  pub number-is : numberOf r ≡ numberOf (decide m p)
-  pub state-is : statesOf r ≡ statesOf (decide m p)
+  pub number-is : numberOf r ≡ numberOf (decision m p)
+  pub state-is : statesOf r ≡ statesOf (decision m p)
+  pub distance-is : distancesOf r ≡ map (λ (s : ℕ). distance m s p) (statesOf r)
   pub lost-is : lostOf r ≡ cond (isOrigin p) 1 0
 
 -- each point off the origin lies in exactly one turn of the first region
@@ -56,3 +66,24 @@ TurnDecides = (m : ℕ) (p : Point) → T (isMode m) → decide m (turned p) ≡
 -- number 10 is never met: no point is in none of the eight sectors
 abbrev pub EachInASector : Type 0
 EachInASector = (m : ℕ) (p : Point) → decide m p ≡ NoSector → ⊥
+
+-- THE DISTANCE
+
+-- it is 0 at the state's sent point, and nowhere else
+abbrev pub NoneAtSent : Type 0
+NoneAtSent = (m s : ℕ) (p : Point) → (distance m s p ≡ 0 ↔ p ≡ sentPoint m s)
+
+-- turning point and state by 90° keeps it
+abbrev pub TurnKeeps : Type 0
+TurnKeeps = (m s : ℕ) (p : Point) → T (isMode m) → T (isState m s) → distance m (turns m (quarterSteps m) s) (turned p) ≡ distance m s p
+
+-- within range that of the decided state is at most 419,430,400, which a corner of the range has in mode 1
+pub record MostDistance : Type 0 where
+  pub at-most : (m : ℕ) (p : Point) (s : ℕ) → T (isMode m) → T (inRange p) → decide m p ≡ State s → distance m s p ≤ 419430400
+  pub reached : (decide 1 (at (pos 16384) (pos 16384)) ≡ State 0) × (distance 1 0 (at (pos 16384) (pos 16384)) ≡ 419430400)
+
+-- it is no minimum: in mode 2 the point (1, 0) is decided 0, and the sent point of state 1 is nearer
+pub record NoMinimum : Type 0 where
+  pub decided : decide 2 (at (pos 1) (pos 0)) ≡ State 0
+  pub to-decided : distance 2 0 (at (pos 1) (pos 0)) ≡ 16769025
+  pub to-another : distance 2 1 (at (pos 1) (pos 0)) ≡ 16767841

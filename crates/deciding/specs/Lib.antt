@@ -1,3 +1,4 @@
 pub mod Decide
+pub mod Distance
 pub mod Sizes
 pub mod Laws

@@ -1,18 +1,23 @@
 // Deciding a point: document 01.
 ghost use mathlib.Core.Path.{_≡_};
 ghost use mathlib.Core.Bool.{true, false};
-ghost use Prim.Native.Nat.{_≤_};
+ghost use Prim.Native.Nat.{_%_, _≤_};
 ghost use lib.IntN.{pos};
 ghost use lib.ListN.{getD};
 ghost use Rattle.line.specs.Point.{at, isOrigin};
-ghost use Rattle.deciding.specs.Decide.{decide as decideSpec};
+ghost use Rattle.deciding.specs.Distance.{apart as apartSpec, squaredDistance, distance as distanceSpec, decision};
 ghost use Rattle.deciding.specs.Laws.{Told};
 ghost use Rattle.deciding.specs.Sizes.{bitOf, belowOf, farOf, ringOf, ringIndex};
+use line::Point;
 use line::size;
 
-// What a point is decided as. The origin is no state, and a mode 2 point may lie in no sector.
+// A squared distance in units, 1024 to one level: no count of bits and none of unit intervals.
+pub struct SquaredUnits(pub u32);
+
+// What a point is decided as: a state, with the squared distance to its sent point. The origin is no state, and a mode 2 point may
+// lie in no sector.
 pub enum Decision {
-    State(u8),
+    State(u8, SquaredUnits),
     Origin,
     NoSector,
 }
@@ -100,14 +105,58 @@ pub fn state_at(mode: u8, ring: &[u8; 16], re: i16, im: i16) -> u8
     ring[8 * down + 4 * left + (2 * bit(far(mode, y, x)) + bit(far(mode, x, y)))]
 }
 
-// The state of a point, for every pair of coordinates.
+// The same by the mode alone. Each mode has a way of its own, so that no ring is copied and no test asks for the mode again.
+fn state_of(mode: u8, re: i16, im: i16) -> u8
+    ensures { λ r. ⌜ r ≡ getD (ringOf mode) (ringIndex mode re im) 0 ⌝ }
+{
+    if mode <= 1 {
+        let ring = RING1;
+        state_at(mode, &ring, re, im)
+    } else if mode == 2 {
+        let ring = RING2;
+        state_at(mode, &ring, re, im)
+    } else if mode == 3 {
+        let ring = RING3;
+        state_at(mode, &ring, re, im)
+    } else {
+        let ring = RING4;
+        state_at(mode, &ring, re, im)
+    }
+}
+
+// How far apart two coordinates are.
+fn apart(x: i16, y: i16) -> u32
+    ensures { λ r. ⌜ (r ≡ apartSpec x y) × (r ≤ 65536) ⌝ }
+{
+    let d = (x as i32) - (y as i32);
+    if 0 <= d { d as u32 } else { (0 - d) as u32 }
+}
+
+// The squared distance of two points. Of a sent point and any other it is below 2^32 (the law `distance-small`), so that nothing
+// is cut off.
+pub fn squared_distance(p: Point, re: i16, im: i16) -> SquaredUnits
+    ensures { λ r. ⌜ r .0 ≡ squaredDistance (at re im) p % 4294967296 ⌝ }
+{
+    let x = apart(re, p.re) as u64;
+    let y = apart(im, p.im) as u64;
+    SquaredUnits(((x * x + y * y) % 4294967296) as u32)
+}
+
+// The squared distance from a point to the sent point of a state.
+pub fn distance(mode: u8, s: u8, re: i16, im: i16) -> SquaredUnits
+    ensures { λ r. ⌜ r .0 ≡ distanceSpec mode s (at re im) ⌝ }
+{
+    squared_distance(line::sent_point(mode, s), re, im)
+}
+
+// The state of a point and its distance, for every pair of coordinates.
 pub fn decide(mode: u8, re: i16, im: i16) -> Decision
-    ensures { λ r. ⌜ r ≡ decideSpec mode (at re im) ⌝ }
+    ensures { λ r. ⌜ r ≡ decision mode (at re im) ⌝ }
     ensures { λ r. ⌜ Told mode (at re im) r ⌝ }
 {
     if is_origin(re, im) {
         return Decision::Origin;
     }
-    let ring = ring_of(mode);
-    Decision::State(state_at(mode, &ring, re, im))
+    let s = state_of(mode, re, im);
+    Decision::State(s, distance(mode, s, re, im))
 }

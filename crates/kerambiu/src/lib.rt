@@ -9,7 +9,8 @@ ghost use Rattle.store.specs.Reads.{readNumber, readCount, readResult};
 ghost use Rattle.track.specs.Append.{makeNumber, makeResult, lostNumber, lostResult, pointNumber, pointResult};
 ghost use Rattle.track.specs.Points.{pointsNumber, pointsResult};
 ghost use Rattle.listing.specs.Text.{text, listNumber, listResult};
-ghost use Rattle.lent_receiver.specs.Receiving.{freshNumber, freshState, callNumber, callState, callAnswer, blockNumber, blockState, blockLine, blockPlain};
+ghost use Rattle.bulk.specs.Block.{parts};
+ghost use Rattle.lent_receiver.specs.Receiving.{freshNumber, freshState, callNumber, callState, callAnswer, blockNumber, blockState, blockParts};
 ghost use Rattle.lent_sender.specs.Sending.{openNumber, openState, openOut, sendNumber, sendState, sendOut};
 ghost use Rattle.kerambiu.specs.Counted.{countedNumber, countedOut, countedCounts};
 
@@ -43,13 +44,13 @@ pub extern "C" fn kerambiu_receive_points(
     points: &[i16],
     line: &mut [u8],
     plain: &mut [u8],
+    distance: &mut [u32],
 ) -> u8
-    ensures { λ r. ⌜ (r ≡ blockNumber (now (state .entry)) (now (points .entry)) (now (line .entry)) (now (plain .entry)))
-        × (now (state .exit) ≡ blockState (now (state .entry)) (now (points .entry)) (now (line .entry)) (now (plain .entry)))
-        × (now (line .exit) ≡ blockLine (now (state .entry)) (now (points .entry)) (now (line .entry)) (now (plain .entry)))
-        × (now (plain .exit) ≡ blockPlain (now (state .entry)) (now (points .entry)) (now (line .entry)) (now (plain .entry))) ⌝ }
+    ensures { λ r. ⌜ (r ≡ blockNumber (now (state .entry)) (now (points .entry)) (parts (now (line .entry)) (now (plain .entry)) (now (distance .entry))))
+        × (now (state .exit) ≡ blockState (now (state .entry)) (now (points .entry)) (parts (now (line .entry)) (now (plain .entry)) (now (distance .entry))))
+        × (parts (now (line .exit)) (now (plain .exit)) (now (distance .exit)) ≡ blockParts (now (state .entry)) (now (points .entry)) (parts (now (line .entry)) (now (plain .entry)) (now (distance .entry)))) ⌝ }
 {
-    lent_receiver::receive_points(state, points, line, plain)
+    lent_receiver::receive_points(state, points, line, plain, distance)
 }
 
 // A gap of n intervals: 0, or the number that refuses it.

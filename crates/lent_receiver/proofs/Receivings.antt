@@ -1,6 +1,6 @@
 -- The receiver's calls over lent bytes: the bytes after an outcome are those of the definitions. Assumes nothing.
 use Prim.Native.Nat.{ℕ, zero, suc, _+_, _*_, _≤_, _<_}
-use mathlib.Core.Path.{_≡_, refl, sym, _∙_, ap, ap₂}
+use mathlib.Core.Path.{_≡_, refl, sym, _∙_, ap, ap₂, subst}
 use mathlib.Core.Bool.{Bool, true, false, _&&_, cond}
 use mathlib.Core.List.{List, map}
 use native.Mathlib.Omega.{arith}
@@ -9,10 +9,11 @@ use lib.Dec.{leb, ltb, eqb}
 use lib.IntN.{ℤ}
 use lib.ListN.{length, getD}
 use lib.Seq.{sets}
-use Rattle.deciding.specs.declared.Decision.{Decision}
-use Rattle.deciding.specs.declared.Decision.the-variants.{State, Origin, NoSector}
+use Rattle.deciding.specs.declared.SquaredUnits.{SquaredUnits}
+use Rattle.line.specs.declared.Point.{Point}
 use Rattle.line.specs.Point.{pairs}
-use Rattle.deciding.specs.Decide.{decide}
+use Rattle.deciding.specs.Decide.{Region, State, Origin, NoSector, decide}
+use Rattle.deciding.specs.Distance.{measured, decision}
 use Rattle.deciding.proofs.SectorLaws.{never-no-sector}
 use Rattle.line.specs.Refusal.{orNext, accepted}
 use Rattle.receiver.specs.declared.Reference.{Reference}
@@ -26,16 +27,16 @@ use Rattle.receiver.specs.declared.Started.{Started}
 use Rattle.receiver.specs.declared.Started.the-variants.{Refused as NotStarted, Ready}
 use Rattle.line.specs.Refusal.{modeRefusal}
 use Rattle.receiver.specs.Receiver.{Event, point, gap, freshReceiver, refusal, stateNext, pointNext, eventNext, next}
-use Rattle.receiver.specs.Outcome.{stateOutcome, pointOutcome, eventOutcome, outcome, numberOf as startedNumber, Made, started}
+use Rattle.receiver.specs.Outcome.{stateOutcome, gapOutcome, pointOutcome, eventOutcome, outcome, numberOf as startedNumber, Made, started}
 use Rattle.receiver.specs.Calls.{after}
 use Rattle.bulk.specs.declared.Block.{Block}
 use Rattle.bulk.specs.declared.Block.the-variants.{Refused as NotTaken, Taken}
-use Rattle.bulk.specs.Block.{blockRefusal, numberOf, Told, block, lineBytes, plainBytes}
+use Rattle.bulk.specs.Block.{Parts, sizes, blockRefusal, numberOf, Told, block, partsAfter}
 use Rattle.octets.specs.Number.{u32}
 use Rattle.lent.specs.State.{stateOut}
 use Rattle.lent.proofs.StateLaws.{making-short, making-done}
-use Rattle.lent_receiver.specs.Receiving.{referenceIn, receiverIn, present, stateByte, receiverOut, answerBytes, answerOut, freshNumber, freshState, atMost7, callNumber, callState, callAnswer, blockNumber, blockState, blockLine, blockPlain}
-use Rattle.lent_receiver.specs.Handing.{numberOut, stateAfter, handedNumber, handedState, handedAnswer}
+use Rattle.lent_receiver.specs.Receiving.{referenceIn, receiverIn, present, stateByte, receiverOut, answerBytes, answerOut, freshNumber, freshState, atMost7, callNumber, callState, callAnswer, blockNumber, blockState, blockParts}
+use Rattle.lent_receiver.specs.Handing.{numberOut, stateAfter, NoPoint, handedNumber, handedState, handedAnswer}
 
 -- THE BYTES OF A STATE
 
@@ -72,27 +73,34 @@ module _ (state answer : List ℕ) (o : Outcome) where
   abbrev Handed : ℕ → List ℕ → List ℕ → Type 0
   Handed r st an = (r ≡ handedNumber answer o) × (st ≡ handedState state answer o) × (an ≡ handedAnswer answer o)
 
-  pub handed-short : (n r : ℕ) → length answer < 8 → n ≡ numberOut o → r ≡ atMost7 n → Handed r state answer
+  pub handed-short : (n r : ℕ) → length answer < 12 → n ≡ numberOut o → r ≡ atMost7 n → Handed r state answer
   unfolding handedNumber handedState handedAnswer
-  handed-short n r h p q = let f : leb 8 (length answer) ≡ false = lt-leb _ _ h in (rw (f, ← p) q, rw f, rw f)
+  handed-short n r h p q = let f : leb 12 (length answer) ≡ false = lt-leb _ _ h in (rw (f, ← p) q, rw f, rw f)
 
-  module _ (h : 8 ≤ length answer) where
+  module _ (h : 12 ≤ length answer) where
     handed : (x : Outcome) (st an : List ℕ) → o ≡ x → st ≡ stateAfter x state → an ≡ sets answer 0 (answerOut x) → Handed (numberOut x) st an
     unfolding handedNumber handedState handedAnswer
-    handed x st an e u v = rw (le-leb 8 (length answer) h, e) (refl, u, v)
+    handed x st an e u v = rw (le-leb 12 (length answer) h, e) (refl, u, v)
 
     pub handed-refused : (n : ℕ) → o ≡ Refused n → Handed n state answer
     handed-refused n e = handed (Refused n) state answer e refl refl
 
     module _ (t : Receiver) (st an : List ℕ) (u : st ≡ sets state 0 (receiverOut t)) where
-      pub handed-reference : o ≡ Referenced t → an ≡ sets answer 0 (answerBytes 0 0 0 0 0) → Handed 0 st an
-      handed-reference e v = handed (Referenced t) st an e u v
+      pub handed-reference : (d : SquaredUnits) → o ≡ Referenced d t → an ≡ sets answer 0 (answerBytes 0 0 0 0 0 (d .0)) → Handed 0 st an
+      handed-reference d e v = handed (Referenced d t) st an e u v
 
-      pub handed-bits : (g : Group) → o ≡ Bits g t → an ≡ sets answer 0 (answerBytes 1 (g .line) (g .plain) (g .unsettled .0) 0) → Handed 0 st an
-      handed-bits g e v = handed (Bits g t) st an e u v
+      pub handed-bits : (g : Group) (d : SquaredUnits) → o ≡ Bits g d t → an ≡ sets answer 0 (answerBytes 1 (g .line) (g .plain) (g .unsettled .0) 0 (d .0)) → Handed 0 st an
+      handed-bits g d e v = handed (Bits g d t) st an e u v
 
-      pub handed-gap : (n : Intervals) → o ≡ Gap n t → an ≡ sets answer 0 (answerBytes 2 0 0 0 (n .0)) → Handed 0 st an
+      pub handed-gap : (n : Intervals) → o ≡ Gap n t → an ≡ sets answer 0 (answerBytes 2 0 0 0 (n .0) 0) → Handed 0 st an
       handed-gap n e v = handed (Gap n t) st an e u v
+
+-- what a gap rules out
+pub not-reference : (o : Outcome) (d : SquaredUnits) (t : Receiver) → NoPoint o → o ≡ Referenced d t → ⊥
+not-reference o d t h e = subst NoPoint e h
+
+pub not-bits : (o : Outcome) (g : Group) (d : SquaredUnits) (t : Receiver) → NoPoint o → o ≡ Bits g d t → ⊥
+not-bits o g d t h e = subst NoPoint e h
 
 -- AN EVENT
 
@@ -101,20 +109,20 @@ abbrev Left : Outcome → Receiver → Type 0
 Left o t = (numberOut o ≡ 0) × ((b : List ℕ) → stateAfter o b ≡ sets b 0 (receiverOut t))
 
 module _ (s : Receiver) where
-  state-left : (r : Reference) (y : ℕ) → Left (stateOutcome s r y) (stateNext s r y)
+  state-left : (r : Reference) (y : ℕ) (d : SquaredUnits) → Left (stateOutcome s r y d) (stateNext s r y)
   unfolding stateOutcome
-  state-left none y = (refl, λ b. refl)
-  state-left (some x) y = (refl, λ b. refl)
+  state-left none y d = (refl, λ b. refl)
+  state-left (some x) y d = (refl, λ b. refl)
 
-  point-left : (d : Decision) → (d ≡ NoSector → ⊥) → Left (pointOutcome s d) (pointNext s d)
+  point-left : (p : Point) (d : Region) → (d ≡ NoSector → ⊥) → Left (pointOutcome s (measured (s .mode) p d)) (pointNext s d)
   unfolding pointOutcome pointNext
-  point-left (State y) f = state-left (s .reference) y
-  point-left Origin f = (refl, λ b. refl)
-  point-left NoSector f = absurd (f refl)
+  point-left p (State y) f = state-left (s .reference) y _
+  point-left p Origin f = (refl, λ b. refl)
+  point-left p NoSector f = absurd (f refl)
 
   event-left : (e : Event) → Left (eventOutcome s e) (eventNext s e)
-  unfolding eventOutcome eventNext
-  event-left (point p) = point-left (decide (s .mode) p) (never-no-sector (s .mode) p)
+  unfolding eventOutcome eventNext decision
+  event-left (point p) = point-left p (decide (s .mode) p) (never-no-sector (s .mode) p)
   event-left (gap n) = (refl, λ b. refl)
 
   -- the number, the state's bytes and the answer's bytes of an outcome
@@ -131,6 +139,15 @@ module _ (s : Receiver) where
           ≡ accepted n (sets b 0 (answerOut (accepted n (eventOutcome s e) (Refused n)))) b)
       go zero = (event-left e .0, event-left e .1, λ b. refl)
       go (suc n) = (refl, λ b. refl, λ b. refl)
+
+  -- a gap decides no point
+  pub gap-no-point : (n : ℕ) (o : Outcome) → o ≡ outcome s (gap n) → NoPoint o
+  unfolding outcome eventOutcome
+  gap-no-point n o e = subst NoPoint (sym e) (go (refusal s (gap n)))
+    where
+      go : (k : ℕ) → NoPoint (accepted k (gapOutcome s n) (Refused k))
+      go zero = tt
+      go (suc k) = tt
 
 -- number 7 and a lower one leave every byte
 leaves : (n : ℕ) (x b : List ℕ) → accepted (atMost7 n) x b ≡ b
@@ -161,8 +178,8 @@ module _ (state answer : List ℕ) (e : Event) where
       let i : o ≡ outcome (receiverIn state) e = q ∙ ap (λ (t : Receiver). outcome t e) p in
       let k = outcome-left (receiverIn state) e in (
         rw (f, ← k .0, ← i) (g .0),
-        rw f (g .1 ∙ lent (leb 8 (length answer)) _ _ _ state (rw i (k .1 state))),
-        rw f (g .2 ∙ lent (leb 8 (length answer)) _ _ _ answer (rw i (k .2 answer))),
+        rw f (g .1 ∙ lent (leb 12 (length answer)) _ _ _ state (rw i (k .1 state))),
+        rw f (g .2 ∙ lent (leb 12 (length answer)) _ _ _ answer (rw i (k .2 answer))),
       )
 
 -- MANY POINTS
@@ -176,33 +193,30 @@ block-leaves : (n : ℕ) (t : Receiver) (b : List ℕ) → blockAfter (accepted 
 block-leaves zero t b = refl
 block-leaves (suc n) t b = refl
 
-module _ (state : List ℕ) (zs : List ℤ) (l p : List ℕ) where
-  abbrev Took : ℕ → List ℕ → List ℕ → List ℕ → Type 0
-  Took r st l′ p′ = (r ≡ blockNumber state zs l p) × (st ≡ blockState state zs l p) × (l′ ≡ blockLine state zs l p) × (p′ ≡ blockPlain state zs l p)
+module _ (state : List ℕ) (zs : List ℤ) (b : Parts) where
+  abbrev Took : ℕ → List ℕ → Parts → Type 0
+  Took r st c = (r ≡ blockNumber state zs b) × (st ≡ blockState state zs b) × (c ≡ blockParts state zs b)
 
-  pub block-short : length state < 16 → Took 7 state l p
-  unfolding blockNumber blockState blockLine blockPlain
-  block-short h = let f : leb 16 (length state) ≡ false = lt-leb _ _ h in (rw f, rw f, rw f, rw f)
+  pub block-short : length state < 16 → Took 7 state b
+  unfolding blockNumber blockState blockParts
+  block-short h = let f : leb 16 (length state) ≡ false = lt-leb _ _ h in (rw f, rw f, rw f)
 
-  module _ (s : Receiver) (h : 16 ≤ length state) (e : s ≡ receiverIn state) (b : Block) (l′ p′ : List ℕ)
-      (q : (b ≡ block s zs (length l) (length p)) × (l′ ≡ lineBytes s zs l (length p)) × (p′ ≡ plainBytes s zs (length l) p))
-      (k : Told s zs (length l) (length p) b) where
-    took : (n : ℕ) (st : List ℕ) → n ≡ numberOf b → st ≡ blockAfter b state → Took n st l′ p′
-    unfolding block blockNumber blockState blockLine blockPlain
+  module _ (s : Receiver) (h : 16 ≤ length state) (e : s ≡ receiverIn state) (r : Block) (c : Parts)
+      (q : (r ≡ block s zs (sizes b)) × (c ≡ partsAfter s zs b)) (k : Told s zs (sizes b) r) where
+    took : (n : ℕ) (st : List ℕ) → n ≡ numberOf r → st ≡ blockAfter r state → Took n st c
+    unfolding block blockNumber blockState blockParts
     took n st x y =
-        let f : ℕ = blockRefusal s zs (length l) (length p) in
         rw (le-leb 16 (length state) h, ← e) (
           x ∙ k .number-is,
-          y ∙ ap (λ (c : Block). blockAfter c state) (q .0) ∙ block-leaves f (after s (map point (pairs zs))) state,
+          y ∙ ap (λ (d : Block). blockAfter d state) (q .0) ∙ block-leaves (blockRefusal s zs (sizes b)) (after s (map point (pairs zs))) state,
           q .1,
-          q .2,
         )
 
-    pub block-refused : (n : ℕ) → b ≡ NotTaken n → Took n state l′ p′
-    block-refused n is = took n state (sym (ap numberOf is)) (sym (ap (λ (c : Block). blockAfter c state) is))
+    pub block-refused : (n : ℕ) → r ≡ NotTaken n → Took n state c
+    block-refused n is = took n state (sym (ap numberOf is)) (sym (ap (λ (d : Block). blockAfter d state) is))
 
-    pub block-taken : (t : Receiver) (st : List ℕ) → b ≡ Taken t → st ≡ sets state 0 (receiverOut t) → Took 0 st l′ p′
-    block-taken t st is u = took 0 st (sym (ap numberOf is)) (u ∙ sym (ap (λ (c : Block). blockAfter c state) is))
+    pub block-taken : (t : Receiver) (st : List ℕ) → r ≡ Taken t → st ≡ sets state 0 (receiverOut t) → Took 0 st c
+    block-taken t st is u = took 0 st (sym (ap numberOf is)) (u ∙ sym (ap (λ (d : Block). blockAfter d state) is))
 
 -- MAKING A RECEIVER
 

@@ -9,15 +9,22 @@ use Rattle.lent_receiver.specs.Receiving.{receiverOut, answerOut, holdsA
 
 abbrev pub numberOut : Outcome → ℕ
 numberOut (Refused n) = n
-numberOut (Referenced t) = 0
-numberOut (Bits g t) = 0
+numberOut (Referenced d t) = 0
+numberOut (Bits g d t) = 0
 numberOut (Gap n t) = 0
 
 abbrev pub stateAfter : Outcome → List ℕ → List ℕ
 stateAfter (Refused n) b = b
-stateAfter (Referenced t) b = sets b 0 (receiverOut t)
-stateAfter (Bits g t) b = sets b 0 (receiverOut t)
+stateAfter (Referenced d t) b = sets b 0 (receiverOut t)
+stateAfter (Bits g d t) b = sets b 0 (receiverOut t)
 stateAfter (Gap n t) b = sets b 0 (receiverOut t)
+
+-- an outcome of no decided point, as a gap has it
+abbrev pub NoPoint : Outcome → Type 0
+NoPoint (Refused n) = Unit {0}
+NoPoint (Referenced d t) = ⊥
+NoPoint (Bits g d t) = ⊥
+NoPoint (Gap n t) = Unit {0}
 
 unfoldable pub handedNumber : List ℕ → Outcome → ℕ
 handedNumber answer o = cond (holdsAnswer answer) (numberOut o) (atMost7 (numberOut o))

@@ -1,6 +1,7 @@
--- The receiver's calls for C: a state is 16 lent bytes, an answer 8; lent bytes beyond them stay as they are.
+-- The receiver's calls for C: a state is 16 lent bytes, an answer 12; lent bytes beyond them stay as they are.
 --   state   as lent/specs/State says, with 2 whether there is a reference (0 or 1), 3 the reference (0 without one), 12 the place
---   answer  0 kind (0 reference, 1 bits, 2 gap), 1 line bits, 2 data bits, 3 how many of these are unsettled, 4 the gap (u32)
+--   answer  0 kind (0 reference, 1 bits, 2 gap), 1 line bits, 2 data bits, 3 how many of these are unsettled, 4 the gap (u32),
+--           8 the squared distance (u32; document 02, R-1), 0 for a gap
 use Prim.Native.Nat.{ℕ, _<_, _≤_}
 use mathlib.Core.Path.{_≡_}
 use mathlib.Core.Bool.{Bool, _&&_, cond}
@@ -20,7 +21,7 @@ use Rattle.receiver.specs.declared.Outcome.the-variants.{Refused, Referenced, B
 use Rattle.receiver.specs.Receiver.{Event, point, receiver, freshReceiver, refusal, next}
 use Rattle.receiver.specs.Outcome.{outcome}
 use Rattle.receiver.specs.Calls.{after}
-use Rattle.bulk.specs.Block.{blockRefusal, lineBytes, plainBytes}
+use Rattle.bulk.specs.Block.{Parts, sizes, blockRefusal, partsAfter}
 use Rattle.lent.specs.State.{registerIn, clear, stateOut, holdsState, makingNumber}
 
 -- THE BYTES OF A STATE
@@ -53,15 +54,15 @@ ReadsBack =
 
 -- THE BYTES OF AN ANSWER
 
-unfoldable pub answerBytes : ℕ → ℕ → ℕ → ℕ → ℕ → List ℕ
-answerBytes kind line plain unsettled n = (kind ∷ line ∷ plain ∷ unsettled ∷ []) ++ le32 n
+unfoldable pub answerBytes : ℕ → ℕ → ℕ → ℕ → ℕ → ℕ → List ℕ
+answerBytes kind line plain unsettled n d = (kind ∷ line ∷ plain ∷ unsettled ∷ []) ++ (le32 n ++ le32 d)
 
 -- a refusal gives its number alone
 abbrev pub answerOut : Outcome → List ℕ
 answerOut (Refused n) = []
-answerOut (Referenced t) = answerBytes 0 0 0 0 0
-answerOut (Bits g t) = answerBytes 1 (g .line) (g .plain) (g .unsettled .0) 0
-answerOut (Gap n t) = answerBytes 2 0 0 0 (n .0)
+answerOut (Referenced d t) = answerBytes 0 0 0 0 0 (d .0)
+answerOut (Bits g d t) = answerBytes 1 (g .line) (g .plain) (g .unsettled .0) 0 (d .0)
+answerOut (Gap n t) = answerBytes 2 0 0 0 (n .0) 0
 
 -- THE CALLS
 
@@ -74,7 +75,7 @@ freshState state m role = accepted (freshNumber state m role) (sets state 0 (rec
 
 -- number 7: too few lent bytes for an answer; the lower of it and of n, 0 is none
 abbrev pub holdsAnswer : List ℕ → Bool
-holdsAnswer b = leb 8 (length b)
+holdsAnswer b = leb 12 (length b)
 
 unfoldable pub atMost7 : ℕ → ℕ
 atMost7 n = cond (leb 1 n && ltb n 7) n 7
@@ -91,16 +92,13 @@ callState state answer e = accepted (callNumber state answer e) (sets state 0 (r
 unfoldable pub callAnswer : List ℕ → List ℕ → Event → List ℕ
 callAnswer state answer e = accepted (callNumber state answer e) (sets answer 0 (answerOut (outcome (receiverIn state) e))) answer
 
--- many points: their number, and the bytes of the state and of the two lent parts when the call returns
-unfoldable pub blockNumber : List ℕ → List ℤ → List ℕ → List ℕ → ℕ
-blockNumber state zs l p = need (holdsState state) 7 (blockRefusal (receiverIn state) zs (length l) (length p))
+-- many points: their number, the bytes of the state and the three lent parts when the call returns
+unfoldable pub blockNumber : List ℕ → List ℤ → Parts → ℕ
+blockNumber state zs b = need (holdsState state) 7 (blockRefusal (receiverIn state) zs (sizes b))
 
-unfoldable pub blockState : List ℕ → List ℤ → List ℕ → List ℕ → List ℕ
-blockState state zs l p =
-    accepted (blockNumber state zs l p) (sets state 0 (receiverOut (after (receiverIn state) (map point (pairs zs))))) state
+unfoldable pub blockState : List ℕ → List ℤ → Parts → List ℕ
+blockState state zs b =
+    accepted (blockNumber state zs b) (sets state 0 (receiverOut (after (receiverIn state) (map point (pairs zs))))) state
 
-unfoldable pub blockLine : List ℕ → List ℤ → List ℕ → List ℕ → List ℕ
-blockLine state zs l p = cond (holdsState state) (lineBytes (receiverIn state) zs l (length p)) l
-
-unfoldable pub blockPlain : List ℕ → List ℤ → List ℕ → List ℕ → List ℕ
-blockPlain state zs l p = cond (holdsState state) (plainBytes (receiverIn state) zs (length l) p) p
+unfoldable pub blockParts : List ℕ → List ℤ → Parts → Parts
+blockParts state zs b = cond (holdsState state) (partsAfter (receiverIn state) zs b) b

@@ -6,8 +6,9 @@ ghost use lib.Seq.{sets};
 ghost use Rattle.line.specs.Point.{at};
 ghost use Rattle.octets.specs.Number.{u32 as word};
 ghost use Rattle.receiver.specs.Receiver.{point, gap};
-ghost use Rattle.lent_receiver.specs.Receiving.{referenceIn, receiverIn, present, stateByte, receiverOut, answerBytes, freshNumber, freshState, atMost7, callNumber, callState, callAnswer, blockNumber, blockState, blockLine, blockPlain};
-ghost use Rattle.lent_receiver.specs.Handing.{numberOut, handedNumber, handedState, handedAnswer};
+ghost use Rattle.bulk.specs.Block.{parts};
+ghost use Rattle.lent_receiver.specs.Receiving.{referenceIn, receiverIn, present, stateByte, receiverOut, answerBytes, freshNumber, freshState, atMost7, callNumber, callState, callAnswer, blockNumber, blockState, blockParts};
+ghost use Rattle.lent_receiver.specs.Handing.{numberOut, NoPoint, handedNumber, handedState, handedAnswer};
 use bulk::Block;
 use receiver::Intervals;
 use receiver::Outcome;
@@ -113,9 +114,9 @@ fn put_receiver(b: &mut [u8], s: Receiver)
 
 // ---- an answer's bytes
 
-fn put_answer(b: &mut [u8], kind: u8, line: u8, plain: u8, unsettled: u8, n: u32)
-    requires { ⌜ 8 ≤ size (now b) ⌝ }
-    ensures { λ _. ⌜ now (b .exit) ≡ sets (now (b .entry)) 0 (answerBytes kind line plain unsettled n) ⌝ }
+fn put_answer(b: &mut [u8], kind: u8, line: u8, plain: u8, unsettled: u8, n: u32, distance: u32)
+    requires { ⌜ 12 ≤ size (now b) ⌝ }
+    ensures { λ _. ⌜ now (b .exit) ≡ sets (now (b .entry)) 0 (answerBytes kind line plain unsettled n distance) ⌝ }
 {
     b[0] = kind;
     b[1] = line;
@@ -125,6 +126,10 @@ fn put_answer(b: &mut [u8], kind: u8, line: u8, plain: u8, unsettled: u8, n: u32
     b[5] = (n % 65536 / 256 % 256) as u8;
     b[6] = (n / 65536 % 256) as u8;
     b[7] = (n / 65536 / 256 % 256) as u8;
+    b[8] = (distance % 65536 % 256) as u8;
+    b[9] = (distance % 65536 / 256 % 256) as u8;
+    b[10] = (distance / 65536 % 256) as u8;
+    b[11] = (distance / 65536 / 256 % 256) as u8;
 }
 
 fn number_of(o: Outcome) -> u8
@@ -132,8 +137,8 @@ fn number_of(o: Outcome) -> u8
 {
     match o {
         Outcome::Refused(n) => n,
-        Outcome::Referenced(_) => 0,
-        Outcome::Bits(_, _) => 0,
+        Outcome::Referenced(_, _) => 0,
+        Outcome::Bits(_, _, _) => 0,
         Outcome::Gap(_, _) => 0,
     }
 }
@@ -145,29 +150,50 @@ fn at_most_7(n: u8) -> u8
     if (1 <= n) & (n < 7) { n } else { 7 }
 }
 
-// Writes what an outcome gives into the lent bytes: 0, or the number that refuses the event.
+// Writes what the outcome of a point gives into the lent bytes: 0, or the number that refuses the point. It has one caller, and so is
+// put in line there.
 fn hand_back(state: &mut [u8], answer: &mut [u8], o: Outcome) -> u8
     requires { ⌜ 16 ≤ size (now state) ⌝ }
     ensures { λ r. ⌜ (r ≡ handedNumber (now (answer .entry)) o) × (now (state .exit) ≡ handedState (now (state .entry)) (now (answer .entry)) o) × (now (answer .exit) ≡ handedAnswer (now (answer .entry)) o) ⌝ }
 {
-    if answer.len() < 8 {
+    if answer.len() < 12 {
         return at_most_7(number_of(o));
     }
     match o {
         Outcome::Refused(n) => n,
-        Outcome::Referenced(t) => {
+        Outcome::Referenced(d, t) => {
             put_receiver(state, t);
-            put_answer(answer, 0, 0, 0, 0, 0);
+            put_answer(answer, 0, 0, 0, 0, 0, d.0);
             0
         }
-        Outcome::Bits(g, t) => {
+        Outcome::Bits(g, d, t) => {
             put_receiver(state, t);
-            put_answer(answer, 1, g.line, g.plain, g.unsettled.0, 0);
+            put_answer(answer, 1, g.line, g.plain, g.unsettled.0, 0, d.0);
             0
         }
         Outcome::Gap(n, t) => {
             put_receiver(state, t);
-            put_answer(answer, 2, 0, 0, 0, n.0);
+            put_answer(answer, 2, 0, 0, 0, n.0, 0);
+            0
+        }
+    }
+}
+
+// The same of a gap, whose outcome is no decided point: that it is one is ruled out.
+fn hand_back_gap(state: &mut [u8], answer: &mut [u8], o: Outcome) -> u8
+    requires { ⌜ (16 ≤ size (now state)) × NoPoint o ⌝ }
+    ensures { λ r. ⌜ (r ≡ handedNumber (now (answer .entry)) o) × (now (state .exit) ≡ handedState (now (state .entry)) (now (answer .entry)) o) × (now (answer .exit) ≡ handedAnswer (now (answer .entry)) o) ⌝ }
+{
+    if answer.len() < 12 {
+        return at_most_7(number_of(o));
+    }
+    match o {
+        Outcome::Refused(n) => n,
+        Outcome::Referenced(_, _) => 0,
+        Outcome::Bits(_, _, _) => 0,
+        Outcome::Gap(n, t) => {
+            put_receiver(state, t);
+            put_answer(answer, 2, 0, 0, 0, n.0, 0);
             0
         }
     }
@@ -204,16 +230,21 @@ pub fn receive_point(state: &mut [u8], re: i16, im: i16, answer: &mut [u8]) -> u
 }
 
 // Points, re and im in turn, all or none: 0, or the number that refuses them.
-pub fn receive_points(state: &mut [u8], points: &[i16], line: &mut [u8], plain: &mut [u8]) -> u8
-    ensures { λ r. ⌜ (r ≡ blockNumber (now (state .entry)) (now (points .entry)) (now (line .entry)) (now (plain .entry)))
-        × (now (state .exit) ≡ blockState (now (state .entry)) (now (points .entry)) (now (line .entry)) (now (plain .entry)))
-        × (now (line .exit) ≡ blockLine (now (state .entry)) (now (points .entry)) (now (line .entry)) (now (plain .entry)))
-        × (now (plain .exit) ≡ blockPlain (now (state .entry)) (now (points .entry)) (now (line .entry)) (now (plain .entry))) ⌝ }
+pub fn receive_points(
+    state: &mut [u8],
+    points: &[i16],
+    line: &mut [u8],
+    plain: &mut [u8],
+    distance: &mut [u32],
+) -> u8
+    ensures { λ r. ⌜ (r ≡ blockNumber (now (state .entry)) (now (points .entry)) (parts (now (line .entry)) (now (plain .entry)) (now (distance .entry))))
+        × (now (state .exit) ≡ blockState (now (state .entry)) (now (points .entry)) (parts (now (line .entry)) (now (plain .entry)) (now (distance .entry))))
+        × (parts (now (line .exit)) (now (plain .exit)) (now (distance .exit)) ≡ blockParts (now (state .entry)) (now (points .entry)) (parts (now (line .entry)) (now (plain .entry)) (now (distance .entry)))) ⌝ }
 {
     if state.len() < 16 {
         return 7;
     }
-    let b = bulk::receive_points(load_receiver(state), points, line, plain);
+    let b = bulk::receive_points(load_receiver(state), points, line, plain, distance);
     match b {
         Block::Refused(n) => n,
         Block::Taken(t) => {
@@ -231,5 +262,5 @@ pub fn receive_gap(state: &mut [u8], n: u32, answer: &mut [u8]) -> u8
         return 7;
     }
     let o = receiver::receive_gap(load_receiver(state), n);
-    hand_back(state, answer, o)
+    hand_back_gap(state, answer, o)
 }

@@ -7,10 +7,10 @@ use native.Mathlib.Omega.{arith}
 use borrow.Author.Tests.{leb-true, ltb-true}
 use lib.Dec.{leb}
 use lib.ListN.{length, getD, drop, length-append, length-map}
-use Rattle.deciding.specs.declared.Decision.{Decision}
-use Rattle.deciding.specs.declared.Decision.the-variants.{State, Origin, NoSector}
 use Rattle.line.specs.Mode.{isMode, isRole, byMode, width, face}
-use Rattle.deciding.specs.Decide.{decide}
+use Rattle.line.specs.declared.Point.{Point}
+use Rattle.deciding.specs.Decide.{Region, State, Origin, NoSector, decide}
+use Rattle.deciding.specs.Distance.{distance}
 use Rattle.coding.specs.Code.{group}
 use Rattle.line.specs.Refusal.{accepted}
 use Rattle.line.proofs.ByMode.{by-all, width-range}
@@ -42,10 +42,10 @@ use Rattle.listing.proofs.Heards.{head-parts}
 bits-long : (ls : List ℕ) (ds : List Datum) → length (bitsAre ++ (lineGlyphs ls ++ (blank ++ glyphs ds))) ≡ 7 + length ls + length ds
 bits-long ls ds = simp (length-append, length-map) (omega arith)
 
-state-long : (s : Receiver) (o : Reference) (y : ℕ) → length (kindText (stateAnswer s o y)) ≤ 15
+state-long : (s : Receiver) (o : Reference) (y d : ℕ) → length (kindText (stateAnswer s o y d)) ≤ 15
 unfolding kindText stateAnswer
-state-long s none y = omega arith
-state-long s (some x) y =
+state-long s none y d = omega arith
+state-long s (some x) y d =
     let bs : List ℕ = lineBits (s .mode) x y in
     omega (
       arith,
@@ -55,11 +55,11 @@ state-long s (some x) y =
       width-range (s .mode),
     )
 
-decision-long : (s : Receiver) (d : Decision) → length (kindText (pointAnswer s d)) ≤ 15
+decision-long : (s : Receiver) (p : Point) (d : Region) → length (kindText (pointAnswer s p d)) ≤ 15
 unfolding pointAnswer kindText decimal
-decision-long s (State y) = state-long s (s .reference) y
-decision-long s Origin = omega arith
-decision-long s NoSector = omega arith
+decision-long s p (State y) = state-long s (s .reference) y (distance (s .mode) y p)
+decision-long s p Origin = omega arith
+decision-long s p NoSector = omega arith
 
 -- of any event whose kind takes at most b bytes
 line-long : (s : Receiver) (e : Call) (b : ℕ) → length (kindText (eventAnswer s e)) ≤ b → length (lineText (s .place .0) (answer s e)) ≤ 11 + b
@@ -78,7 +78,7 @@ points-long bs (suc n) s =
     omega (
       arith,
       length-append (lineText (s .place .0) (answer s e)) (lines (next s e) (map taken (points (drop 4 bs) n))),
-      line-long s e 15 (decision-long s (decide (s .mode) (pointAt bs))),
+      line-long s e 15 (decision-long s (pointAt bs) (decide (s .mode) (pointAt bs))),
       points-long (drop 4 bs) n (next s e),
     )
 

@@ -19,10 +19,10 @@ use Rattle.line.proofs.PointLaws.{pairs-length}
 use Rattle.octets.specs.Number.{u16, i16, signed}
 use Rattle.octets.proofs.Numbers.{u16-drop}
 use Rattle.octets.proofs.Sets.{sets-whole}
-use Rattle.deciding.specs.declared.Decision.{Decision}
-use Rattle.deciding.specs.declared.Decision.the-variants.{State, Origin, NoSector}
-use Rattle.deciding.specs.Decide.{decide}
+use Rattle.deciding.specs.Decide.{Region, State, Origin, NoSector, decide}
+use Rattle.deciding.specs.Distance.{distance}
 use Rattle.coding.specs.Code.{group}
+use Rattle.scrambler.specs.Scramble.{Datum}
 use Rattle.scrambler.specs.Bits.{bits, value}
 use Rattle.scrambler.specs.Group.{descrambled, marked}
 use Rattle.scrambler.proofs.BitLaws.{length-bits, bits-are, value-small, bits-value}
@@ -37,10 +37,10 @@ use Rattle.receiver.proofs.OutcomeLaws.{in-a-sector, accepted-placed}
 use Rattle.receiver.proofs.CallLaws.{no-refusal, accepted-valid, same-next, heard-accepted, heard-all}
 use Rattle.bulk.specs.declared.Block.{Block}
 use Rattle.bulk.specs.declared.Block.the-variants.{Refused as NotTaken, Taken}
-use Rattle.bulk.specs.Block.{lineByte, plainByte, answersTo, lentOk, blockRefusal, block, lineBytes, plainBytes}
+use Rattle.bulk.specs.Block.{lineByte, plainByte, answersTo, Parts, wrote, sizes, lentOk, blockRefusal, block, partsAfter}
 use Rattle.bulk.proofs.BlockLaws.{has-place, each-has-place, at-once}
 use Rattle.store.specs.Layout.{points}
-use Rattle.listing.specs.Text.{lineText, taken, lines}
+use Rattle.listing.specs.Text.{decimal, kindText, lineText, lineEnd, taken, lines}
 use Rattle.listing.specs.Wrote.{Wrote, Went, numbersIn, byteAnswer, byteLines}
 use Rattle.listing.proofs.Writes.{wrote-as}
 
@@ -101,12 +101,12 @@ lines-end w place ls ps k h = ap (λ (l : List ℕ). byteLines w (place + k) l (
 -- ---- what a point's two bytes say
 module _ (s : Receiver) where
   abbrev Says : Answer → Type 0
-  Says a = byteAnswer (width (s .mode)) (lineByte a) (plainByte a) ≡ a
+  Says a = kindText (byteAnswer (width (s .mode)) (lineByte a) (plainByte a)) ≡ kindText a
 
-  state-says : (o : Reference) (y : ℕ) → Says (stateAnswer s o y)
-  unfolding byteAnswer stateAnswer descrambled
-  state-says none y = refl
-  state-says (some x) y =
+  state-says : (o : Reference) (y u : ℕ) → Says (stateAnswer s o y u)
+  unfolding byteAnswer stateAnswer descrambled kindText
+  state-says none y u = refl
+  state-says (some x) y u =
       let w : ℕ = width (s .mode) in
       let g : ℕ = group (s .mode) (face (s .mode) x) y in
       let v : ℕ = value (bits w g) in
@@ -116,28 +116,29 @@ module _ (s : Receiver) where
       let k : 2 ^ length (bits w g) ≤ 2 ^ 4 = pow-mono {j = 4} (omega (arith, n, width-range (s .mode) .1)) in
       let l = descrambled-small (s .mode) (s .role) (s .line) g in
       rw (ne-eqb v 16 (λ e. omega arith), ne-eqb v 17 (λ e. omega arith))
-      (ap₂ decoded (ap (λ (i : ℕ). bits i v) (sym n) ∙ bits-value (bits w g) (bits-are w g))
+      (ap₂ (λ (ls : List ℕ) (ds : List Datum). kindText (decoded ls ds 0)) (ap (λ (i : ℕ). bits i v) (sym n) ∙ bits-value (bits w g) (bits-are w g))
       (ap₂ (λ (i j : ℕ). marked i (bits w j)) (let q : (16 * d .unsettled .0 + d .plain) / 16 ≡ d .unsettled .0 = omega arith in q)
       (let q : (16 * d .unsettled .0 + d .plain) % 16 ≡ d .plain = omega arith in q) ∙ group-read (s .mode) (s .role) (s .line) g))
 
-  point-says : (d : Decision) → T (inSector d) → Says (pointAnswer s d)
+  point-says : (p : Point) (d : Region) → T (inSector d) → Says (pointAnswer s p d)
   unfolding byteAnswer pointAnswer
-  point-says (State y) t = state-says (s .reference) y
-  point-says Origin t = refl
-  point-says NoSector t = absurd t
+  point-says p (State y) t = state-says (s .reference) y (distance (s .mode) y p)
+  point-says p Origin t = refl
+  point-says p NoSector t = absurd t
 
   byte-answer : (p : Point) → refusal s (point p) ≡ 0 → Says (answer s (point p))
   unfolding answer eventAnswer
   byte-answer p z =
-      subst Says (ap (λ (n : ℕ). accepted n (pointAnswer s (decide (s .mode) p)) (refused n)) (sym z)) (point-says (decide (s .mode) p) (in-a-sector (s .mode) p))
+      subst Says (ap (λ (n : ℕ). accepted n (pointAnswer s p (decide (s .mode) p)) (refused n)) (sym z)) (point-says p (decide (s .mode) p) (in-a-sector (s .mode) p))
 
 bytes-lines : (s : Receiver) (ps : List Point) → EachAccepted s (map point ps)
     → byteLines (width (s .mode)) (s .place .0) (map lineByte (answersTo s ps)) (map plainByte (answersTo s ps)) ≡ lines s (map point ps)
+unfolding lineText
 bytes-lines s [] f = refl
 bytes-lines s (p ∷ ps) f =
     let t : Receiver = next s (point p) in
     ap (λ (xs : List Heard). byteLines (width (s .mode)) (s .place .0) (map lineByte (answers xs)) (map plainByte (answers xs))) (heard-accepted s (point p) (map point ps) (f .0))
-    ∙ ap₂ (λ (a : Answer) (l : List ℕ). lineText (s .place .0) a ++ l) (byte-answer s p (f .0))
+    ∙ ap₂ (λ (k l : List ℕ). (decimal (s .place .0) ++ (k ++ lineEnd)) ++ l) (byte-answer s p (f .0))
     (ap₂ (λ (w place : ℕ). byteLines w place (map lineByte (answersTo t ps)) (map plainByte (answersTo t ps))) (ap width (sym (same-next s (point p) .0))) (sym (accepted-placed s (point p) (f .0)))
     ∙ bytes-lines t ps (f .1))
 
@@ -172,41 +173,47 @@ module _ (r : List ℕ) (n : ℕ) (s : Receiver) (numbers : List ℤ) (e : numbe
   places = omega (arith, each-has-place s (pairs zs) (passes .1) each-accepted, pairs-long)
 
   -- the bytes of an accepted block, as many as there are points
-  first-bytes : (f : Answer → ℕ) (l l′ : List ℕ) (k : ℕ) → length l ≡ 7 → k ≡ 0 → l′ ≡ accepted k (sets l 0 (map f (answersTo s (pairs zs)))) l
+  first-bytes : (f : Answer → ℕ) (l l′ : List ℕ) → length l ≡ 7 → l′ ≡ sets l 0 (map f (answersTo s (pairs zs)))
       → take n l′ ≡ map f (answersTo s (pairs zs))
-  first-bytes f l l′ k el z h =
+  first-bytes f l l′ el h =
       let vs : List ℕ = map f (answersTo s (pairs zs)) in
       let heard-long = simp length-map at (ap length (heard-all s (map point (pairs zs)) each-accepted)) in
       let long : length vs ≡ n = simp length-map (heard-long ∙ pairs-long) in
-      ap (take n) (h ∙ ap (λ (i : ℕ). accepted i (sets l 0 vs) l) z ∙ sets-eq vs l 0 (omega arith)) ∙ take-at vs _ n long
+      ap (take n) (h ∙ sets-eq vs l 0 (omega arith)) ∙ take-at vs _ n long
 
-  module _ (l p : List ℕ) (el : length l ≡ 7) (ep : length p ≡ 7) where
-    free-block : blockRefusal s zs (length l) (length p) ≡ 0
+  module _ (b : Parts) (el : length (b .line) ≡ 7) (ep : length (b .plain) ≡ 7) (ed : length (b .distance) ≡ 7) where
+    free-block : blockRefusal s zs (sizes b) ≡ 0
     unfolding lentOk
     free-block =
         let k = pairs-long in
-        at-once s zs (length l) (length p) (passes .0) (passes .1)
-        (rw (eq-eqb (length zs % 2) 0 (omega (arith, zs-long)), le-leb (length (pairs zs)) (length l) (omega arith), le-leb (length (pairs zs)) (length p) (omega arith)) tt) each-accepted
+        at-once s zs (sizes b) (passes .0) (passes .1)
+        (rw (
+          eq-eqb (length zs % 2) 0 (omega (arith, zs-long)),
+          le-leb (length (pairs zs)) (length (b .line)) (omega arith),
+          le-leb (length (pairs zs)) (length (b .plain)) (omega arith),
+          le-leb (length (pairs zs)) (length (b .distance)) (omega arith),
+        ) tt) each-accepted
 
-    is-taken : block s zs (length l) (length p) ≡ Taken (after s (map point (pairs zs)))
+    is-taken : block s zs (sizes b) ≡ Taken (after s (map point (pairs zs)))
     unfolding block
     is-taken = ap (λ (k : ℕ). accepted k (Taken (after s (map point (pairs zs)))) (NotTaken k)) free-block
 
-    pub not-refused : (b : Block) (k : ℕ) → b ≡ block s zs (length l) (length p) → b ≡ NotTaken k → ⊥
-    not-refused b k e h = let t = is-taken in let z : _≡_ {A = ℕ} 0 1 = cc in omega arith
+    pub not-refused : (r : Block) (k : ℕ) → r ≡ block s zs (sizes b) → r ≡ NotTaken k → ⊥
+    not-refused r k e h = let t = is-taken in let z : _≡_ {A = ℕ} 0 1 = cc in omega arith
 
-    pub points-went : {out out′ : List ℕ} {at q : ℕ} (l′ p′ : List ℕ) (b : Block) (t : Receiver) (w : ℕ) → l′ ≡ lineBytes s zs l (length p) → p′ ≡ plainBytes s zs (length l) p
-        → b ≡ block s zs (length l) (length p) → b ≡ Taken t → w ≡ width (s .mode) → Wrote out at (byteLines w (s .place .0) (take n l′) (take n p′)) out′ q
+    pub points-went : {out out′ : List ℕ} {at q : ℕ} (c : Parts) (d : Block) (t : Receiver) (w : ℕ) → c ≡ partsAfter s zs b
+        → d ≡ block s zs (sizes b) → d ≡ Taken t → w ≡ width (s .mode) → Wrote out at (byteLines w (s .place .0) (take n (c .line)) (take n (c .plain))) out′ q
         → Went out at s (map taken (points (drop 4 r) n)) out′ (record { at = q; state = t })
-    unfolding lineBytes plainBytes
-    points-went {out} {out′} {at} {q} l′ p′ b t w fl fp eb et ew a =
+    unfolding partsAfter
+    points-went {out} {out′} {at} {q} c d t w ec eb et ew a =
         let done = is-taken in
         let state : t ≡ after s (map point (pairs zs)) = cc in
+        let after-it : c ≡ wrote b 0 (answersTo s (pairs zs)) = ec ∙ ap (λ (k : ℕ). accepted k (wrote b 0 (answersTo s (pairs zs))) b) free-block in
         rw points-are
         (record {
           wrote = wrote-as
-              (ap (λ (v : ℕ). byteLines v (s .place .0) (take n l′) (take n p′)) ew
-              ∙ ap₂ (byteLines (width (s .mode)) (s .place .0)) (first-bytes lineByte l l′ _ el free-block fl) (first-bytes plainByte p p′ _ ep free-block fp)
+              (ap (λ (v : ℕ). byteLines v (s .place .0) (take n (c .line)) (take n (c .plain))) ew
+              ∙ ap₂ (byteLines (width (s .mode)) (s .place .0)) (first-bytes lineByte (b .line) (c .line) el (ap (λ (p : Parts). p .line) after-it)) (first-bytes plainByte (b .plain) (c .plain) ep (ap (λ (p : Parts). p .plain) after-it))
               ∙ bytes-lines s (pairs zs) each-accepted) a;
           state = state;
         })

@@ -70,11 +70,11 @@ abbrev pub lineGlyphs : List ℕ → List ℕ
 lineGlyphs bs = map (λ (b : ℕ). glyph (settled b)) bs
 
 -- kind, and bits (line, then data) or count; nothing for a refused event, which an accepted store does not hold (`NoneRefused` of
--- specs/Laws)
+-- specs/Laws). The squared distance of an answer is not printed: R-1, "The listing keeps its form."
 unfoldable pub kindText : Answer → List ℕ
 kindText (refused n) = []
-kindText reference = ref
-kindText (decoded ls ds) = bitsAre ++ (lineGlyphs ls ++ (blank ++ glyphs ds))
+kindText (reference d) = ref
+kindText (decoded ls ds d) = bitsAre ++ (lineGlyphs ls ++ (blank ++ glyphs ds))
 kindText (lost n) = lostAre ++ decimal n
 
 -- the place before the event, then its kind

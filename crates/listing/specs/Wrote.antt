@@ -32,9 +32,9 @@ unfoldable pub numbersIn : List ℕ → ℕ → List ℤ
 numbersIn bs zero = []
 numbersIn bs (suc n) = i16 bs 0 ∷ numbersIn (drop 2 bs) n
 
--- the answer that a point's two bytes in a block say, with w bits in a point
+-- the answer that a point's two bytes in a block say, with w bits in a point; its distance, which no line has, is put as 0
 unfoldable pub byteAnswer : ℕ → ℕ → ℕ → Answer
-byteAnswer w l p = cond (eqb l 16) reference (cond (eqb l 17) (lost 1) (decoded (bits w l) (marked (p / 16) (bits w (p % 16)))))
+byteAnswer w l p = cond (eqb l 16) (reference 0) (cond (eqb l 17) (lost 1) (decoded (bits w l) (marked (p / 16) (bits w (p % 16))) 0))
 
 -- the lines of points from those bytes, the first at a place
 abbrev pub byteLines : ℕ → ℕ → List ℕ → List ℕ → List ℕ

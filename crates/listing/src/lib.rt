@@ -170,8 +170,9 @@ fn put_points(r: &[u8], n: usize, out: &mut [u8], from: Progress) -> Progress
     let numbers = numbers_of(r);
     let mut line = [0u8; 7];
     let mut plain = [0u8; 7];
+    let mut distance = [0u32; 7];
     let m = 2 * n;
-    let b = bulk::receive_points(s, &numbers[..m], &mut line, &mut plain);
+    let b = bulk::receive_points(s, &numbers[..m], &mut line, &mut plain, &mut distance);
     match b {
         Block::Refused(_) => from,
         Block::Taken(t) => {

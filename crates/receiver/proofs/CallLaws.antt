@@ -8,11 +8,9 @@ use native.Mathlib.Omega.{arith}
 use lib.Dec.{T, eqb, eqb→eq}
 use lib.Pow.{pow-pos}
 use Rattle.line.specs.declared.Point.{Point}
-use Rattle.deciding.specs.declared.Decision.{Decision}
-use Rattle.deciding.specs.declared.Decision.the-variants.{State, Origin, NoSector}
 use Rattle.line.specs.Mode.{isMode, isRole, isState, width, face}
 use Rattle.line.specs.Point.{isOrigin}
-use Rattle.deciding.specs.Decide.{decide}
+use Rattle.deciding.specs.Decide.{Region, State, Origin, NoSector, decide}
 use Rattle.coding.specs.Code.{group}
 use Rattle.line.specs.Refusal.{accepted}
 use Rattle.line.proofs.RefusalLaws.{next-first, state-met, state-free}
@@ -26,9 +24,11 @@ use Rattle.receiver.specs.declared.Reference.the-variants.{Nothing as no
 use Rattle.receiver.specs.declared.Receiver.{Receiver}
 use Rattle.line.specs.Refusal.{modeRefusal}
 use Rattle.receiver.specs.Receiver.{freshReceiver, Event, point, gap, isFresh, fieldsOk, stateRefusal, refusal, refused, lost, lineBits, stateAnswer, pointAnswer, eventAnswer, answer, intervals, placeAfter, forgotten, stateLine, stateNext, pointNext, eventNext, next}
-use Rattle.receiver.specs.Calls.{after, EachAccepted, Heard, heard, events, heardIntervals}
-use Rattle.receiver.specs.Laws.{StatesPass, GapForgets, PlaceAfter}
-use Rattle.deciding.proofs.DecideLaws.{Off, decide-off}
+use Rattle.receiver.specs.Calls.{after, EachAccepted, Heard, heard, events, heardIntervals, decidedAs, distancesOf}
+use Rattle.receiver.specs.Laws.{StatesPass, GapForgets, EachMeasured, PlaceAfter}
+use Rattle.deciding.specs.Distance.{distance}
+use Rattle.deciding.proofs.DecideLaws.{Off, at-origin, decide-off}
+use Rattle.deciding.proofs.SectorLaws.{never-no-sector}
 use Rattle.receiver.proofs.OutcomeLaws.{next-placed}
 
 -- NUMBERS 1, 2 AND 4
@@ -85,7 +85,7 @@ module _ (s : Receiver) (v : Valid s) where
         fields = and-intro (isState (s .mode) y) _ h (passes (s .mode) _ (line-register s (s .reference) y (v .fields)));
       }
 
-  point-valid : (d : Decision) → Off (s .mode) d → Valid (pointNext s d)
+  point-valid : (d : Region) → Off (s .mode) d → Valid (pointNext s d)
   unfolding pointNext
   point-valid (State y) h = state-valid y h
   point-valid Origin h = absurd h
@@ -127,22 +127,52 @@ pub gap-forgets : GapForgets
 unfolding answer next stateAnswer pointAnswer eventAnswer pointNext eventNext forgotten
 gap-forgets s e n q = go (refusal s e) q
   where
-    of-state : (o : Reference) (y : ℕ) → stateAnswer s o y ≡ lost n → ⊥
-    of-state none y p = let z : _≡_ {A = ℕ} 0 1 = cc in omega arith
-    of-state (some x) y p = let z : _≡_ {A = ℕ} 0 1 = cc in omega arith
+    of-state : (o : Reference) (y d : ℕ) → stateAnswer s o y d ≡ lost n → ⊥
+    of-state none y d p = let z : _≡_ {A = ℕ} 0 1 = cc in omega arith
+    of-state (some x) y d p = let z : _≡_ {A = ℕ} 0 1 = cc in omega arith
 
-    of-point : (d : Decision) → pointAnswer s d ≡ lost n → (pointNext s d .reference ≡ none) × (pointNext s d .line ≡ fresh)
-    of-point (State y) p = absurd (of-state (s .reference) y p)
-    of-point Origin p = (refl, refl)
-    of-point NoSector p = let z : _≡_ {A = ℕ} 0 1 = cc in absurd (omega arith)
+    of-point : (q : Point) (d : Region) → pointAnswer s q d ≡ lost n → (pointNext s d .reference ≡ none) × (pointNext s d .line ≡ fresh)
+    of-point q (State y) p = absurd (of-state (s .reference) y (distance (s .mode) y q) p)
+    of-point q Origin p = (refl, refl)
+    of-point q NoSector p = let z : _≡_ {A = ℕ} 0 1 = cc in absurd (omega arith)
 
     of-event : (e : Event) → eventAnswer s e ≡ lost n → (eventNext s e .reference ≡ none) × (eventNext s e .line ≡ fresh)
-    of-event (point p) a = of-point (decide (s .mode) p) a
+    of-event (point p) a = of-point p (decide (s .mode) p) a
     of-event (gap k) a = (refl, refl)
 
     go : (k : ℕ) → accepted k (eventAnswer s e) (refused k) ≡ lost n → (accepted k (eventNext s e) s .reference ≡ none) × (accepted k (eventNext s e) s .line ≡ fresh)
     go zero a = of-event e a
     go (suc k) a = let z : _≡_ {A = ℕ} 0 1 = cc in absurd (omega arith)
+
+-- the distance that an answer carries
+module _ (s : Receiver) where
+  of-answer : (e : Event) (n : ℕ) (ds : List ℕ) → n ≡ 0 → distancesOf (eventAnswer s e) ≡ ds → distancesOf (accepted n (eventAnswer s e) (refused n)) ≡ ds
+  of-answer e zero ds z q = q
+  of-answer e (suc n) ds z q = absurd (omega arith)
+
+  without : (e : Event) (n : ℕ) → distancesOf (eventAnswer s e) ≡ [] → distancesOf (accepted n (eventAnswer s e) (refused n)) ≡ []
+  without e zero q = q
+  without e (suc n) q = refl
+
+  of-state : (o : Reference) (y d : ℕ) → distancesOf (stateAnswer s o y d) ≡ d ∷ []
+  unfolding stateAnswer
+  of-state none y d = refl
+  of-state (some x) y d = refl
+
+  of-region : (p : Point) (d : Region) → Off (s .mode) d → decide (s .mode) p ≡ d → distancesOf (pointAnswer s p d) ≡ distance (s .mode) (decidedAs (s .mode) (point p)) p ∷ []
+  unfolding pointAnswer
+  of-region p (State y) v e = rw e (of-state (s .reference) y (distance (s .mode) y p))
+  of-region p Origin v e = absurd v
+  of-region p NoSector v e = absurd (never-no-sector (s .mode) p e)
+
+pub each-measured : EachMeasured
+unfolding answer eventAnswer pointAnswer
+each-measured =
+    record {
+      of-point = λ s p z o. of-answer s (point p) (refusal s (point p)) _ z (of-region s p (decide (s .mode) p) (accepted-off s p z o) refl);
+      of-origin = λ s p o. without s (point p) (refusal s (point p)) (ap (λ (d : Region). distancesOf (pointAnswer s p d)) (at-origin (s .mode) p o));
+      of-gap = λ s n. without s (gap n) (refusal s (gap n)) refl;
+    }
 
 pub place-after : PlaceAfter
 place-after s [] = omega arith
@@ -184,7 +214,7 @@ pub same-next : (s : Receiver) (e : Event) → Same s (next s e)
 unfolding next pointNext eventNext stateNext forgotten
 same-next s e = go (refusal s e) e
   where
-    of-point : (d : Decision) → Same s (pointNext s d)
+    of-point : (d : Region) → Same s (pointNext s d)
     of-point (State y) = (refl, refl)
     of-point Origin = (refl, refl)
     of-point NoSector = (refl, refl)

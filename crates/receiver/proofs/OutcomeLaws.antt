@@ -3,26 +3,30 @@
 use Prim.Native.Nat.{ℕ, zero, suc, _+_, _-_, _<_, _≤_}
 use mathlib.Core.Path.{_≡_, refl, sym, _∙_, ap, subst}
 use mathlib.Core.Bool.{Bool, true, false, _&&_, cond}
-use mathlib.Core.List.{[], _∷_}
+use mathlib.Core.List.{List, [], _∷_}
 use native.Mathlib.Omega.{arith}
 use borrow.Author.Tests.{le-leb, lt-leb}
 use lib.IntN.{ℤ}
 use lib.Dec.{T, eqb}
 use Rattle.line.specs.declared.Point.{Point}
-use Rattle.deciding.specs.declared.Decision.{Decision}
-use Rattle.deciding.specs.declared.Decision.the-variants.{State, Origin, NoSector}
-use Rattle.line.specs.Mode.{isState, width, face}
+use Rattle.line.specs.Mode.{isState, width, capacity, face}
 use Rattle.line.specs.Point.{at, inRange}
-use Rattle.deciding.specs.Decide.{decide}
+use Rattle.deciding.specs.Decide.{Region, State, Origin, NoSector, decide}
 use Rattle.coding.specs.Code.{group}
 use Rattle.line.specs.Refusal.{need, orNext, accepted}
 use Rattle.line.proofs.RefusalLaws.{or-some}
+use Rattle.line.proofs.TableLaws.{is-true}
 use Rattle.deciding.proofs.SectorLaws.{never-no-sector}
 use Rattle.scrambler.specs.declared.Register.{Register}
 use Rattle.scrambler.specs.declared.Descrambled.{Descrambled}
-use Rattle.scrambler.specs.Register.{fresh, registerOk}
+use Rattle.scrambler.specs.Register.{register, fresh, registerOk}
+use Rattle.scrambler.specs.Scramble.{Datum}
 use Rattle.scrambler.specs.Group.{descrambled}
 use Rattle.scrambler.proofs.GroupLaws.{group-read}
+use Rattle.deciding.specs.declared.SquaredUnits.{SquaredUnits}
+use Rattle.deciding.specs.declared.Decision.{Decision}
+use Rattle.deciding.specs.declared.Decision.the-variants.{State as DecidedAs, Origin as AtOrigin, NoSector as InNoSector}
+use Rattle.deciding.specs.Distance.{measured, decision}
 use Rattle.receiver.specs.declared.Reference.{Reference}
 use Rattle.receiver.specs.declared.Reference.the-variants.{Nothing as none, State as some}
 use Rattle.receiver.specs.declared.Receiver.{Receiver}
@@ -38,48 +42,57 @@ use Rattle.receiver.specs.Outcome.{answerOf, stateOf, Told, groupOf, sta
 pub in-a-sector : (m : ℕ) (p : Point) → T (inSector (decide m p))
 in-a-sector m p = go (decide m p) refl
   where
-    go : (d : Decision) → decide m p ≡ d → T (inSector d)
+    go : (d : Region) → decide m p ≡ d → T (inSector d)
     go (State y) e = tt
     go Origin e = tt
     go NoSector e = absurd (never-no-sector m p e)
 
+never-nowhere : (m : ℕ) (p : Point) → InNoSector ≡ decision m p → ⊥
+unfolding decision
+never-nowhere m p = go (decide m p) refl
+  where
+    go : (d : Region) → decide m p ≡ d → InNoSector ≡ measured m p d → ⊥
+    go (State y) e q = let z : _≡_ {A = ℕ} 0 1 = cc in omega arith
+    go Origin e q = let z : _≡_ {A = ℕ} 0 1 = cc in omega arith
+    go NoSector e q = never-no-sector m p e
+
 -- WHAT AN OUTCOME SAYS
 
 module _ (s : Receiver) where
-  state-answered : (o : Reference) (y : ℕ) → answerOf (width (s .mode)) (stateOutcome s o y) ≡ stateAnswer s o y
+  state-answered : (o : Reference) (y : ℕ) (d : SquaredUnits) → answerOf (width (s .mode)) (stateOutcome s o y d) ≡ stateAnswer s o y (d .0)
   unfolding stateOutcome stateAnswer groupOf descrambled
-  state-answered none y = refl
-  state-answered (some x) y =
-      ap (decoded (lineBits (s .mode) x y)) (group-read (s .mode) (s .role) (s .line) (group (s .mode) (face (s .mode) x) y))
+  state-answered none y d = refl
+  state-answered (some x) y d =
+      ap (λ (ds : List Datum). decoded (lineBits (s .mode) x y) ds (d .0)) (group-read (s .mode) (s .role) (s .line) (group (s .mode) (face (s .mode) x) y))
 
-  point-answered : (d : Decision) → answerOf (width (s .mode)) (pointOutcome s d) ≡ pointAnswer s d
+  point-answered : (p : Point) (d : Region) → answerOf (width (s .mode)) (pointOutcome s (measured (s .mode) p d)) ≡ pointAnswer s p d
   unfolding pointOutcome pointAnswer
-  point-answered (State y) = state-answered (s .reference) y
-  point-answered Origin = refl
-  point-answered NoSector = refl
+  point-answered p (State y) = state-answered (s .reference) y _
+  point-answered p Origin = refl
+  point-answered p NoSector = refl
 
   event-answered : (e : Event) → answerOf (width (s .mode)) (eventOutcome s e) ≡ eventAnswer s e
-  unfolding eventOutcome eventAnswer
-  event-answered (point p) = point-answered (decide (s .mode) p)
+  unfolding eventOutcome eventAnswer decision
+  event-answered (point p) = point-answered p (decide (s .mode) p)
   event-answered (gap n) = refl
 
-  state-left : (o : Reference) (y : ℕ) → stateOf s (stateOutcome s o y) ≡ stateNext s o y
+  state-left : (o : Reference) (y : ℕ) (d : SquaredUnits) → stateOf s (stateOutcome s o y d) ≡ stateNext s o y
   unfolding stateOutcome
-  state-left none y = refl
-  state-left (some x) y = refl
+  state-left none y d = refl
+  state-left (some x) y d = refl
 
-  point-left : (d : Decision) → stateOf s (pointOutcome s d) ≡ pointNext s d
+  point-left : (p : Point) (d : Region) → stateOf s (pointOutcome s (measured (s .mode) p d)) ≡ pointNext s d
   unfolding pointOutcome pointNext
-  point-left (State y) = state-left (s .reference) y
-  point-left Origin = refl
-  point-left NoSector = refl
+  point-left p (State y) = state-left (s .reference) y _
+  point-left p Origin = refl
+  point-left p NoSector = refl
 
   event-left : (e : Event) → stateOf s (eventOutcome s e) ≡ eventNext s e
-  unfolding eventOutcome eventNext
-  event-left (point p) = point-left (decide (s .mode) p)
+  unfolding eventOutcome eventNext decision
+  event-left (point p) = point-left p (decide (s .mode) p)
   event-left (gap n) = refl
 
-  point-placed : (d : Decision) → T (inSector d) → pointNext s d .place .0 ≡ s .place .0 + 1
+  point-placed : (d : Region) → T (inSector d) → pointNext s d .place .0 ≡ s .place .0 + 1
   unfolding pointNext stateNext forgotten
   point-placed (State y) t = refl
   point-placed Origin t = refl
@@ -145,6 +158,10 @@ module _ (s : Receiver) (f : ℕ) (e : f ≡ modeRefusal (s .mode) (s .role)) wh
     unfolding stateRefusal
     fault-nowhere k = rw (← e, h, ← p, k)
 
+-- a full register
+pub full-register : (m role g full : ℕ) (h : Register) (d : Descrambled) → full ≡ capacity m → h .held .0 ≡ full → d ≡ descrambled m role (register (h .bits) (capacity m)) g → d ≡ descrambled m role h g
+full-register m role g full h d e f q = q ∙ ap (λ (n : ℕ). descrambled m role (register (h .bits) n) g) (sym (f ∙ e))
+
 -- no room, and room
 module _ (s : Receiver) (n : ℕ) (r : Outcome) where
   pub room-none : 4294967295 - s .place .0 < n → Refused 16 ≡ ifRoom s n r
@@ -161,14 +178,14 @@ pub lost-law : (s : Receiver) (n : ℕ) (h : Register) (t : Receiver) → s .pla
 unfolding forgotten
 lost-law s n h t b k e q = rw (q, e) (room-some s n (gapOutcome s n) b k)
 
-module _ (s : Receiver) (o : Reference) (y : ℕ) (t : Receiver) (b : s .place .0 ≤ 4294967295) (k : 1 ≤ 4294967295 - s .place .0) where
-  pub reference-law : o ≡ none → t ≡ receiver (s .mode) (s .role) (some y) (s .line) (s .place .0 + 1) → Referenced t ≡ ifRoom s 1 (stateOutcome s o y)
+module _ (s : Receiver) (o : Reference) (y : ℕ) (u : SquaredUnits) (t : Receiver) (b : s .place .0 ≤ 4294967295) (k : 1 ≤ 4294967295 - s .place .0) where
+  pub reference-law : o ≡ none → t ≡ receiver (s .mode) (s .role) (some y) (s .line) (s .place .0 + 1) → Referenced u t ≡ ifRoom s 1 (stateOutcome s o y u)
   unfolding stateOutcome stateNext stateLine
   reference-law is q = rw (q, is) (room-some s 1 _ b k)
 
   pub bits-law : (x g : ℕ) (d : Descrambled) → o ≡ some x → g ≡ group (s .mode) (face (s .mode) x) y → d ≡ descrambled (s .mode) (s .role) (s .line) g
       → t ≡ receiver (s .mode) (s .role) (some y) (d .next) (s .place .0 + 1)
-      → Bits (record { line = g; plain = d .plain; unsettled = d .unsettled }) t ≡ ifRoom s 1 (stateOutcome s o y)
+      → Bits (record { line = g; plain = d .plain; unsettled = d .unsettled }) u t ≡ ifRoom s 1 (stateOutcome s o y u)
   unfolding stateOutcome stateNext stateLine groupOf descrambled
   bits-law x g d is e q r = rw (r, q, e, is) (room-some s 1 _ b k)
 
@@ -201,33 +218,25 @@ module _ (s : Receiver) (f : ℕ) (a : f ≡ stateRefusal s) where
       unfolding outcome refusal eventRefusal
       point-far h = rw (← a, z, ← x, ← y, ← b, h)
 
-      module _ (h : i ≡ true) (d : Decision) (q : d ≡ decide (s .mode) (at re′ im′)) where
-        point-in : T (inSector d) → ifRoom s 1 (pointOutcome s d) ≡ outcome s (point (at re im))
+      module _ (h : i ≡ true) (d : Decision) (q : d ≡ decision (s .mode) (at re′ im′)) where
+        point-in : ifRoom s 1 (pointOutcome s d) ≡ outcome s (point (at re im))
         unfolding outcome refusal eventRefusal eventOutcome ifRoom
-        point-in t = rw (← a, z, ← x, ← y, ← b, h, ← q) (sectors d t)
-          where
-            sectors : (d : Decision) → T (inSector d)
-                → cond (hasRoom s 1) (pointOutcome s d) (Refused 16)
-                ≡ accepted (need (inSector d) 10 (need (hasRoom s 1) 16 0)) (pointOutcome s d) (Refused (need (inSector d) 10 (need (hasRoom s 1) 16 0)))
-            sectors (State y) t = last-room (hasRoom s 1) (pointOutcome s (State y))
-            sectors Origin t = last-room (hasRoom s 1) (pointOutcome s Origin)
-            sectors NoSector t = absurd t
+        point-in = rw (← a, z, ← x, ← y, ← b, h, ← q, is-true (inSector (decide (s .mode) (at re′ im′))) (in-a-sector (s .mode) (at re′ im′))) (last-room (hasRoom s 1) (pointOutcome s d))
 
-        point-as : (c : Decision) (r : Outcome) → d ≡ c → T (inSector c) → r ≡ ifRoom s 1 (pointOutcome s c) → r ≡ outcome s (point (at re im))
-        point-as c r is t e =
-            e ∙ ap (λ (u : Decision). ifRoom s 1 (pointOutcome s u)) (sym is) ∙ point-in (subst (λ (u : Decision). T (inSector u)) (sym is) t)
+        point-as : (c : Decision) (r : Outcome) → d ≡ c → r ≡ ifRoom s 1 (pointOutcome s c) → r ≡ outcome s (point (at re im))
+        point-as c r is e = e ∙ ap (λ (u : Decision). ifRoom s 1 (pointOutcome s u)) (sym is) ∙ point-in
 
-        pub point-state : (n : ℕ) (r : Outcome) → d ≡ State n → r ≡ ifRoom s 1 (stateOutcome s (s .reference) n) → r ≡ outcome s (point (at re im))
+        pub point-state : (n : ℕ) (u : SquaredUnits) (r : Outcome) → d ≡ DecidedAs n u → r ≡ ifRoom s 1 (stateOutcome s (s .reference) n u) → r ≡ outcome s (point (at re im))
         unfolding pointOutcome
-        point-state n r is e = point-as (State n) r is tt e
+        point-state n u r is e = point-as (DecidedAs n u) r is e
 
-        pub point-origin : (r : Outcome) → d ≡ Origin → r ≡ ifRoom s 1 (gapOutcome s 1) → r ≡ outcome s (point (at re im))
+        pub point-origin : (r : Outcome) → d ≡ AtOrigin → r ≡ ifRoom s 1 (gapOutcome s 1) → r ≡ outcome s (point (at re im))
         unfolding pointOutcome
-        point-origin r is e = point-as Origin r is tt e
+        point-origin r is e = point-as AtOrigin r is e
 
-        pub point-nowhere : d ≡ NoSector → Refused 10 ≡ outcome s (point (at re im))
-        unfolding outcome refusal eventRefusal
-        point-nowhere is = rw (← a, z, ← x, ← y, ← b, h, ← q, is)
+        -- no point is one
+        pub point-nowhere : d ≡ InNoSector → Refused 10 ≡ outcome s (point (at re im))
+        point-nowhere is = absurd (never-nowhere (s .mode) (at re′ im′) (sym is ∙ q))
 
 -- A FRESH RECEIVER
 

@@ -8,11 +8,10 @@ use lib.ListN.{length}
 use Rattle.coding.specs.Code.{group}
 use Rattle.line.specs.Table.{every}
 use Rattle.line.specs.declared.Point.{Point}
-use Rattle.deciding.specs.declared.Decision.{Decision}
-use Rattle.deciding.specs.declared.Decision.the-variants.{State, Origin, NoSector}
 use Rattle.line.specs.Mode.{isMode, isState, width, face}
 use Rattle.line.specs.Point.{isOrigin}
-use Rattle.deciding.specs.Decide.{decide}
+use Rattle.deciding.specs.Decide.{Region, State, Origin, NoSector, decide}
+use Rattle.deciding.specs.Distance.{distance}
 use Rattle.line.specs.Refusal.{accepted}
 use Rattle.line.proofs.TableLaws.{and-intro}
 use Rattle.scrambler.specs.declared.Register.{Register}
@@ -44,7 +43,7 @@ decided s p z t = go (decide (s .mode) p) refl (accepted-off s p z (not-so (isOr
     not-so true t = absurd t
     not-so false t = refl
 
-    go : (d : Decision) → decide (s .mode) p ≡ d → Off (s .mode) d → T (inSector d) → Decided (s .mode) p
+    go : (d : Region) → decide (s .mode) p ≡ d → Off (s .mode) d → T (inSector d) → Decided (s .mode) p
     go (State y) e h i = record { state = y; is = e; of-mode = h }
     go Origin e h i = absurd h
     go NoSector e h i = absurd i
@@ -58,7 +57,7 @@ pub record Follows (m role x : ℕ) (h : Register) (xs : List Heard) : Type 0 wh
 
 module _ (m role : ℕ) where
   heardAt : ℕ → Register → Point → ℕ → Heard
-  heardAt x h p y = record { event = point p; answered = decoded (lineBits m x y) (descramble m role h (lineBits m x y)) }
+  heardAt x h p y = record { event = point p; answered = decoded (lineBits m x y) (descramble m role h (lineBits m x y)) (distance m y p) }
 
   follows-cons : (x : ℕ) (h : Register) (p : Point) (xs : List Heard) (d : Decided m p)
       → Follows m role (d .state) (pushes m h (lineBits m x (d .state))) xs → Follows m role x h (heardAt x h p (d .state) ∷ xs)
@@ -86,10 +85,10 @@ heard-by s e es = refl
 -- an accepted point decided as a state: its answer, and the calls after it
 heard-point : (s : Receiver) (p : Point) (es : List Event) (d : Decided (s .mode) p)
     → heardBy 0 s (point p) es
-    ≡ record { event = point p; answered = stateAnswer s (s .reference) (d .state) } ∷ heard (stateNext s (s .reference) (d .state)) es
+    ≡ record { event = point p; answered = stateAnswer s (s .reference) (d .state) (distance (s .mode) (d .state) p) } ∷ heard (stateNext s (s .reference) (d .state)) es
 unfolding eventAnswer eventNext pointAnswer pointNext
 heard-point s p es d =
-    ap (λ (t : Decision). record { event = point p; answered = pointAnswer s t } ∷ heard (pointNext s t) es) (d .is)
+    ap (λ (t : Region). record { event = point p; answered = pointAnswer s p t } ∷ heard (pointNext s t) es) (d .is)
 
 -- points after a reference
 abbrev Followed : ℕ → ℕ → List Event → Type 0

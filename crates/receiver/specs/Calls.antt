@@ -56,17 +56,25 @@ abbrev pub decidedAs : ℕ → Event → ℕ
 decidedAs m (point p) = stateIn (decide m p)
 decidedAs m (gap n) = 0
 
+-- the bits of an answer. R-1: "The comparison of two receivers in the third demand is about bits and leaves the distance aside."
 abbrev pub lineOf : Answer → List ℕ
 lineOf (refused n) = []
-lineOf reference = []
-lineOf (decoded ls ds) = ls
+lineOf (reference d) = []
+lineOf (decoded ls ds d) = ls
 lineOf (lost n) = []
 
 abbrev pub dataOf : Answer → List Datum
 dataOf (refused n) = []
-dataOf reference = []
-dataOf (decoded ls ds) = ds
+dataOf (reference d) = []
+dataOf (decoded ls ds d) = ds
 dataOf (lost n) = []
+
+-- the squared distance that an answer carries; of a gap and of a refusal none
+abbrev pub distancesOf : Answer → List ℕ
+distancesOf (refused n) = []
+distancesOf (reference d) = d ∷ []
+distancesOf (decoded ls ds d) = d ∷ []
+distancesOf (lost n) = []
 
 -- the decided states of accepted points
 abbrev pub decidedStates : ℕ → List Heard → List ℕ

@@ -4,10 +4,11 @@ use Prim.Native.Nat.{ℕ}
 use mathlib.Core.Path.{_≡_}
 use mathlib.Core.Bool.{cond}
 use mathlib.Core.List.{List, [], _∷_}
+use Rattle.deciding.specs.declared.SquaredUnits.{SquaredUnits}
 use Rattle.deciding.specs.declared.Decision.{Decision}
-use Rattle.deciding.specs.declared.Decision.the-variants.{State, Origin, NoSector}
+use Rattle.deciding.specs.declared.Decision.the-variants.{State as DecidedAs, Origin as AtOrigin, NoSector as InNoSector}
 use Rattle.line.specs.Mode.{width, face}
-use Rattle.deciding.specs.Decide.{decide}
+use Rattle.deciding.specs.Distance.{decision}
 use Rattle.coding.specs.Code.{group}
 use Rattle.line.specs.Refusal.{accepted}
 use Rattle.scrambler.specs.Bits.{bits}
@@ -28,15 +29,15 @@ use Rattle.receiver.specs.Receiver.{Event, point, gap, Answer, refused, 
 -- the answer that a case stands for; w bits in a point, the first in time highest
 abbrev pub answerOf : ℕ → Outcome → Answer
 answerOf w (Refused n) = refused n
-answerOf w (Referenced t) = reference
-answerOf w (Bits g t) = decoded (bits w (g .line)) (marked (g .unsettled .0) (bits w (g .plain)))
+answerOf w (Referenced d t) = reference (d .0)
+answerOf w (Bits g d t) = decoded (bits w (g .line)) (marked (g .unsettled .0) (bits w (g .plain))) (d .0)
 answerOf w (Gap n t) = lost (n .0)
 
 -- the state that a later call gets: the one handed back, after a refusal the one that the refused call got
 abbrev pub stateOf : Receiver → Outcome → Receiver
 stateOf s (Refused n) = s
-stateOf s (Referenced t) = t
-stateOf s (Bits g t) = t
+stateOf s (Referenced d t) = t
+stateOf s (Bits g d t) = t
 stateOf s (Gap n t) = t
 
 -- the place after the call, in unit intervals
@@ -61,20 +62,20 @@ groupOf s x y =
       unsettled = descrambled (s .mode) (s .role) (s .line) g .unsettled;
     }
 
-unfoldable pub stateOutcome : Receiver → Reference → ℕ → Outcome
-stateOutcome s none y = Referenced (stateNext s none y)
-stateOutcome s (some x) y = Bits (groupOf s x y) (stateNext s (some x) y)
+unfoldable pub stateOutcome : Receiver → Reference → ℕ → SquaredUnits → Outcome
+stateOutcome s none y d = Referenced d (stateNext s none y)
+stateOutcome s (some x) y d = Bits (groupOf s x y) d (stateNext s (some x) y)
 
 abbrev pub gapOutcome : Receiver → ℕ → Outcome
 gapOutcome s n = Gap (record { 0 = n }) (forgotten s n)
 
 unfoldable pub pointOutcome : Receiver → Decision → Outcome
-pointOutcome s (State y) = stateOutcome s (s .reference) y
-pointOutcome s Origin = gapOutcome s 1
-pointOutcome s NoSector = Refused 10
+pointOutcome s (DecidedAs y d) = stateOutcome s (s .reference) y d
+pointOutcome s AtOrigin = gapOutcome s 1
+pointOutcome s InNoSector = Refused 10
 
 unfoldable pub eventOutcome : Receiver → Event → Outcome
-eventOutcome s (point p) = pointOutcome s (decide (s .mode) p)
+eventOutcome s (point p) = pointOutcome s (decision (s .mode) p)
 eventOutcome s (gap n) = gapOutcome s n
 
 unfoldable pub outcome : Receiver → Event → Outcome

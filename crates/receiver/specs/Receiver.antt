@@ -1,14 +1,14 @@
--- Document 01, "Receiver" and "Refusals": a receiver's events, what it refuses, and the answer, place and state after an event.
+-- Document 01, "Receiver" and "Refusals", and document 02, R-1: a receiver's events, what it refuses, and the answer, place and state
+-- after an event.
 use Prim.Native.Nat.{ℕ, _+_}
 use mathlib.Core.Bool.{Bool, true, false, _&&_}
 use mathlib.Core.List.{List}
 use lib.Dec.{eqb, leb}
 use Rattle.line.specs.declared.Point.{Point}
-use Rattle.deciding.specs.declared.Decision.{Decision}
-use Rattle.deciding.specs.declared.Decision.the-variants.{State, Origin, NoSector}
 use Rattle.line.specs.Mode.{isState, width, face}
 use Rattle.line.specs.Point.{inRange}
-use Rattle.deciding.specs.Decide.{decide}
+use Rattle.deciding.specs.Decide.{Region, State, Origin, NoSector, decide}
+use Rattle.deciding.specs.Distance.{distance}
 use Rattle.coding.specs.Code.{group}
 use Rattle.line.specs.Refusal.{need, orNext, accepted, modeRefusal}
 use Rattle.scrambler.specs.declared.Register.{Register}
@@ -47,7 +47,7 @@ unfoldable pub stateRefusal : Receiver → ℕ
 stateRefusal s = orNext (modeRefusal (s .mode) (s .role)) (need (fieldsOk (s .mode) (s .reference) (s .line)) 4 0)
 
 -- number 10: off the origin, and in none of the eight sectors
-abbrev pub inSector : Decision → Bool
+abbrev pub inSector : Region → Bool
 inSector (State y) = true
 inSector Origin = true
 inSector NoSector = false
@@ -65,30 +65,32 @@ refusal s e = orNext (stateRefusal s) (eventRefusal s e)
 
 -- THE ANSWER
 
--- a refusal's number; the reference alone; line bits and data bits, first in time first; a gap and its intervals
+-- a refusal's number; the reference alone; line bits and data bits, first in time first; a gap and its intervals. R-1: "The receiver's
+-- answers carry it for every decided point, reference points included.": the last number of `reference` and `decoded` is the squared
+-- distance to the decided state's sent point.
 pub data Answer : Type 0 where
   refused : ℕ → Answer
-  reference : Answer
-  decoded : List ℕ → List Datum → Answer
+  reference : ℕ → Answer
+  decoded : List ℕ → List Datum → ℕ → Answer
   lost : ℕ → Answer
 
 -- the w line bits of the state y after the reference x
 abbrev pub lineBits : ℕ → ℕ → ℕ → List ℕ
 lineBits m x y = bits (width m) (group m (face m x) y)
 
--- a point decided as y: without a reference that alone, otherwise its line bits and their data bits with the marks
-unfoldable pub stateAnswer : Receiver → Reference → ℕ → Answer
-stateAnswer s none y = reference
-stateAnswer s (some x) y = decoded (lineBits (s .mode) x y) (descramble (s .mode) (s .role) (s .line) (lineBits (s .mode) x y))
+-- a point decided as y at the distance d: without a reference that alone, otherwise its line bits and their data bits with the marks
+unfoldable pub stateAnswer : Receiver → Reference → ℕ → ℕ → Answer
+stateAnswer s none y d = reference d
+stateAnswer s (some x) y d = decoded (lineBits (s .mode) x y) (descramble (s .mode) (s .role) (s .line) (lineBits (s .mode) x y)) d
 
 -- the origin is a gap of one interval; a point in no sector never comes here, since number 10 refuses it
-unfoldable pub pointAnswer : Receiver → Decision → Answer
-pointAnswer s (State y) = stateAnswer s (s .reference) y
-pointAnswer s Origin = lost 1
-pointAnswer s NoSector = refused 10
+unfoldable pub pointAnswer : Receiver → Point → Region → Answer
+pointAnswer s p (State y) = stateAnswer s (s .reference) y (distance (s .mode) y p)
+pointAnswer s p Origin = lost 1
+pointAnswer s p NoSector = refused 10
 
 unfoldable pub eventAnswer : Receiver → Event → Answer
-eventAnswer s (point p) = pointAnswer s (decide (s .mode) p)
+eventAnswer s (point p) = pointAnswer s p (decide (s .mode) p)
 eventAnswer s (gap n) = lost n
 
 -- "A refusal gives back its number alone"
@@ -119,7 +121,7 @@ stateLine s (some x) y = pushes (s .mode) (s .line) (lineBits (s .mode) x y)
 unfoldable pub stateNext : Receiver → Reference → ℕ → Receiver
 stateNext s o y = receiver (s .mode) (s .role) (some y) (stateLine s o y) (s .place .0 + 1)
 
-unfoldable pub pointNext : Receiver → Decision → Receiver
+unfoldable pub pointNext : Receiver → Region → Receiver
 pointNext s (State y) = stateNext s (s .reference) y
 pointNext s Origin = forgotten s 1
 pointNext s NoSector = s

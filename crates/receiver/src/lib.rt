@@ -1,9 +1,12 @@
 // The receiver: its state, its answers, and the points and gaps that it takes. Document 01, "Receiver" and "Refusals".
 ghost use mathlib.Core.Path.{_≡_};
 ghost use Rattle.line.specs.Point.{at};
+ghost use Rattle.scrambler.specs.Group.{descrambled};
 ghost use Rattle.receiver.specs.Receiver.{receiver, point, gap, fieldsOk, stateRefusal};
 ghost use Rattle.receiver.specs.Outcome.{Told, stateOutcome, gapOutcome, outcome, ifRoom, Made, started};
+use deciding::SquaredUnits;
 use scrambler::BitCount;
+use scrambler::Descrambled;
 use scrambler::Register;
 
 // A count of unit intervals, never to be taken for one of bits.
@@ -32,11 +35,12 @@ pub struct Group {
     pub unsettled: BitCount,
 }
 
-// What a call gives. A refusal gives its number alone; the other cases hand back the next state.
+// What a call gives. A refusal gives its number alone; the other cases hand back the next state, those of a decided point also the
+// squared distance to its state's sent point.
 pub enum Outcome {
     Refused(u8),
-    Referenced(Receiver),
-    Bits(Group, Receiver),
+    Referenced(SquaredUnits, Receiver),
+    Bits(Group, SquaredUnits, Receiver),
     Gap(Intervals, Receiver),
 }
 
@@ -119,9 +123,20 @@ fn lose(s: Receiver, n: u32) -> Outcome
     Outcome::Gap(Intervals(n), next)
 }
 
-// A point decided as the state y, which becomes the reference.
-fn take_state(s: Receiver, y: u8) -> Outcome
-    ensures { λ r. ⌜ r ≡ ifRoom s 1 (stateOutcome s (s .reference) y) ⌝ }
+// The data bits of w line bits. Nearly always the register is full, and nothing is to be counted.
+fn descramble(mode: u8, role: u8, h: Register, line: u8) -> Descrambled
+    ensures { λ r. ⌜ r ≡ descrambled mode role h line ⌝ }
+{
+    if h.held.0 == line::capacity_of(mode) {
+        scrambler::descramble_next(mode, role, h.bits, line)
+    } else {
+        scrambler::descramble_group(mode, role, h, line)
+    }
+}
+
+// A point decided as the state y at the distance d: y becomes the reference.
+fn take_state(s: Receiver, y: u8, d: SquaredUnits) -> Outcome
+    ensures { λ r. ⌜ r ≡ ifRoom s 1 (stateOutcome s (s .reference) y d) ⌝ }
 {
     let place = s.place.0;
     if 4294967295 - place < 1 {
@@ -132,14 +147,14 @@ fn take_state(s: Receiver, y: u8) -> Outcome
     match reference {
         Reference::Nothing => {
             let next = moved(s, Reference::State(y), h, place + 1);
-            Outcome::Referenced(next)
+            Outcome::Referenced(d, next)
         }
         Reference::State(x) => {
             let line = coding::group_of(s.mode, x, y);
-            let d = scrambler::descramble_group(s.mode, s.role, h, line);
-            let plain = d.plain;
-            let unsettled = d.unsettled;
-            let after = d.next;
+            let bits = descramble(s.mode, s.role, h, line);
+            let plain = bits.plain;
+            let unsettled = bits.unsettled;
+            let after = bits.next;
             let next = moved(s, Reference::State(y), after, place + 1);
             Outcome::Bits(
                 Group {
@@ -147,6 +162,7 @@ fn take_state(s: Receiver, y: u8) -> Outcome
                     plain,
                     unsettled,
                 },
+                d,
                 next,
             )
         }
@@ -165,7 +181,7 @@ pub fn receive_point(s: Receiver, re: i16, im: i16) -> Outcome
     if line::in_range(re, im) {
         let decision = deciding::decide(s.mode, re, im);
         match decision {
-            deciding::Decision::State(y) => take_state(s, y),
+            deciding::Decision::State(y, d) => take_state(s, y, d),
             deciding::Decision::Origin => lose(s, 1),
             deciding::Decision::NoSector => Outcome::Refused(10),
         }

@@ -19,7 +19,7 @@ use Rattle.resync.proofs.DemandProof.{demand3}
 of-call : (s : Receiver) (c : Call) → (nextOf s c ≡ after s (singlesOf s c)) × (heardOf s c ≡ heard s (singlesOf s c))
 unfolding block
 of-call s (single e) = (refl, refl)
-of-call s (many zs a b) = by (blockRefusal s zs a b)
+of-call s (many zs n) = by (blockRefusal s zs n)
   where
     by : (n : ℕ) → (stateOf s (accepted n (Taken (after s (map point (pairs zs)))) (NotTaken n)) ≡ after s (accepted n (map point (pairs zs)) []))
         × (accepted n (heard s (map point (pairs zs))) [] ≡ heard s (accepted n (map point (pairs zs)) []))

@@ -5,11 +5,11 @@ use mathlib.Core.List.{List, [], _∷_, _++_, map, map-append, append-assoc}
 use native.Mathlib.Omega.{arith}
 use lib.ListN.{length, take, drop, length-drop, take-append-drop}
 use Rattle.line.specs.Table.{All}
+use Rattle.deciding.specs.Decide.{Region}
 use Rattle.line.specs.Mode.{isState, width}
 use Rattle.line.specs.Refusal.{accepted}
 use Rattle.line.proofs.TableLaws.{and-intro}
 use Rattle.line.proofs.StateLaws.{OfState, of-state}
-use Rattle.deciding.specs.declared.Decision.{Decision}
 use Rattle.scrambler.specs.declared.Register.{Register}
 use Rattle.scrambler.specs.Register.{registerOk, pushes}
 use Rattle.scrambler.specs.Scramble.{scramble, settled, descramble}
@@ -58,7 +58,7 @@ module _ (s : Sender) (place : ℕ) (d : DataPoint) (ds : List DataPoint) (k : M
   moves : next (listening s place) (point (d .point)) ≡ listening then (place + 1)
   unfolding afterGroup next eventNext pointNext stateNext stateLine
   moves =
-      ap₂ (λ (n : ℕ) (c : Decision). accepted n (pointNext (listening s place) c) (listening s place)) takes (decided-made s d ds k)
+      ap₂ (λ (n : ℕ) (c : Region). accepted n (pointNext (listening s place) c) (listening s place)) takes (decided-made s d ds k)
       ∙ ap (λ (h : Register). receiver (s .mode) (s .role) (some (then .reference)) h (place + 1))
       (ap (pushes (s .mode) (s .line)) (group-read s (d .bits) (k .0) (k .1)) ∙ sym (group-line s (d .bits) (k .0) (k .1)))
 

@@ -9,8 +9,7 @@ use lib.ListN.{length}
 use Rattle.line.specs.Table.{every, All}
 use Rattle.line.specs.Mode.{width, face}
 use Rattle.line.specs.Point.{sentPoint}
-use Rattle.deciding.specs.declared.Decision.the-variants.{State}
-use Rattle.deciding.specs.Decide.{decide, stateIn}
+use Rattle.deciding.specs.Decide.{State, decide, stateIn}
 use Rattle.deciding.proofs.DecideLaws.{decided-sent}
 use Rattle.coding.specs.Code.{group}
 use Rattle.scrambler.specs.declared.Register.{Register}

@@ -3,11 +3,10 @@ use mathlib.Core.Path.{_≡_}
 use mathlib.Core.List.{List, [], _∷_}
 use Prim.Native.Nat.{ℕ}
 use lib.IntN.{ℤ, pos, negsuc}
-use Rattle.deciding.specs.declared.Decision.the-variants.{State}
 use Rattle.line.specs.Table.{All}
 use Rattle.line.specs.Mode.{face}
 use Rattle.line.specs.Point.{at}
-use Rattle.deciding.specs.Decide.{decide}
+use Rattle.deciding.specs.Decide.{State, decide}
 use Rattle.coding.specs.Code.{coded}
 use Rattle.training.specs.Bench.{TrainingBench}
 

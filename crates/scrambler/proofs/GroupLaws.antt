@@ -242,3 +242,16 @@ module _ (m role n g : ℕ) where
   after-full =
       let e = full-law (width m) (capacity m) _ _ _ _ refl refl refl refl refl refl in
       (sym (ap (λ (d : Descrambled). d .unsettled .0) e), sym (ap (λ (d : Descrambled). d .next .held .0) e))
+
+-- two modes of the same parameters descramble alike
+abbrev full-group : (m role n g : ℕ) → Descrambled
+full-group m role n g =
+    record { plain = mixedAtOnce m role n g; unsettled = record { 0 = 0 }; next = register ((n * 2 ^ width m + g % 2 ^ width m) % 2 ^ capacity m) (capacity m) }
+
+pub column-law : (k m role n g : ℕ) (d : Descrambled) → d ≡ descrambled k role (register n (capacity k)) g → width k ≡ width m → capacity k ≡ capacity m → nearTap k role ≡ nearTap m role → farTap k ≡ farTap m
+    → d ≡ descrambled m role (register n (capacity m)) g
+column-law k m role n g d e ew ec en ef =
+    let whole : (i : ℕ) → full-group i role n g ≡ descrambled i role (register n (capacity i)) g =
+    λ i. full-law i role n g (width i) (capacity i) _ _ _ _ refl refl refl refl refl refl in
+    let same : full-group k role n g ≡ full-group m role n g = unfold mixedAtOnce in (rw (ew, ec, en, ef)) in
+    e ∙ sym (whole k) ∙ same ∙ whole m

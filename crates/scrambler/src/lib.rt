@@ -204,9 +204,8 @@ pub fn descramble_group(mode: u8, role: u8, h: Register, line: u8) -> Descramble
     }
 }
 
-// The same after a full register of bits n, as nearly all points of a block find it: nothing is counted. It has one caller, the loop
-// over such points: a large function is put in line only there.
-pub fn descramble_next(mode: u8, role: u8, n: u32, line: u8) -> Descrambled
+// The same after a full register of bits n, as nearly all points find it: nothing is counted.
+fn next_bits(mode: u8, role: u8, n: u32, line: u8) -> Descrambled
     ensures { λ r. ⌜ r ≡ descrambled mode role (register n (capacity mode)) line ⌝ }
 {
     let low = low_bits(mode, line as u32) as u64;
@@ -218,5 +217,21 @@ pub fn descramble_next(mode: u8, role: u8, n: u32, line: u8) -> Descrambled
             bits,
             held: BitCount(line::capacity_of(mode)),
         },
+    }
+}
+
+// The same with a way of its own for each mode: there all that depends on the mode is a constant, and the function is small enough to
+// be put in line in both of its callers.
+pub fn descramble_next(mode: u8, role: u8, n: u32, line: u8) -> Descrambled
+    ensures { λ r. ⌜ r ≡ descrambled mode role (register n (capacity mode)) line ⌝ }
+{
+    if mode <= 1 {
+        next_bits(1, role, n, line)
+    } else if mode == 2 {
+        next_bits(2, role, n, line)
+    } else if mode == 3 {
+        next_bits(3, role, n, line)
+    } else {
+        next_bits(4, role, n, line)
     }
 }

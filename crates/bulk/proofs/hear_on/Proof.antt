@@ -15,14 +15,18 @@ capacity-of-requires c κs = search needs
 
 hear-settled-requires : tie.Need-hear-settled-requires
 hear-settled-requires c κs =
-    let p = c .before .before .before .before .before .before .before .before .before .before .pre in
-    (p .0, p .1, is-settled (c .before .before .before .before .before .before .before .before .before .before .args .s) _ _ _ (search needs) (c .before .before .before .before .capacity-of .ensures) (c .before .before .if1 .taken) refl, p .2, p .3, p .4)
+    let s = c .before .before .before .before .before .before .before .before .before .before .before .before in
+    let p = s .pre in
+    (p .0, p .1, is-settled (s .args .s) _ _ _ (search needs) (c .before .before .before .before .before .capacity-of .ensures) (c .before .before .before .if1 .taken) refl, p .2, p .3)
 
 same-length : tie.Need-same-length
 same-length c = search needs
 
 same-length-2 : tie.Need-same-length-2
 same-length-2 c = search needs
+
+same-length-3 : tie.Need-same-length-3
+same-length-3 c = search needs
 
 returns : tie.Need-returns
 returns c = search needs
@@ -43,6 +47,7 @@ hear-on-spec =
     hear-settled-requires
     same-length
     same-length-2
+    same-length-3
     returns
     returns-2
     returns-3)

@@ -2,21 +2,27 @@ use mir.Facts.{toZ-ofZ}
 use mir.Syntax.{w16}
 use borrow.Author.Needs.{needs, sfits-of}
 use mathlib.Core.Path.{refl}
+use native.Mathlib.Omega.{arith}
 use Prim.Native.Nat.{_-_}
+use Rattle.bulk.specs.Block.{parts}
 use Rattle.bulk.specs.Hearing.{Hearing, settledAt}
-use Rattle.bulk.proofs.BlockLaws.{settled-start, settled-room, settled-again}
+use Rattle.bulk.proofs.BlockLaws.{from-constellation, settled-start, settled-room, settled-again}
 use Rattle.bulk.proofs.hear_settled.Statement.{statement}
 use Rattle.bulk.proofs.hear_settled.Tie as tie
 
 abbrev Inv-loop : tie.InvT-loop
-Inv-loop ring rows s reference points line₀ plain₀ from n x₀ bits₀ k₀ line plain x bits k =
-    Hearing s line₀ plain₀ points from (settledAt s x bits (k - from)) line plain k
+Inv-loop ring rows s reference points line₀ plain₀ distance₀ from n x₀ bits₀ constellation k₀ line plain distance x bits k =
+    Hearing s (parts line₀ plain₀ distance₀) points from (settledAt s x bits (k - from)) (parts line plain distance) k
 
 abbrev μ-loop : tie.MeasureT-loop
-μ-loop ring rows s reference points line₀ plain₀ from n x₀ bits₀ k₀ line plain x bits k = n - k
+μ-loop ring rows s reference points line₀ plain₀ distance₀ from n x₀ bits₀ constellation k₀ line plain distance x bits k =
+    n - k
+
+constellation-requires : tie.Need-constellation-requires Inv-loop μ-loop
+constellation-requires c κs = search needs
 
 loop-holds : tie.Need-loop-holds Inv-loop μ-loop
-loop-holds c = let a = c .before .before .args in settled-start (a .s) _ _ _ (a .from) (a .reference) (c .before .before .pre .2) (c .before .before .pre .3)
+loop-holds c = let s = c .before .before .before .before in settled-start (s .args .s) _ _ (s .args .from) (s .args .reference) (s .pre .2) (s .pre .3)
 
 mul-re : tie.Need-mul-re Inv-loop μ-loop
 mul-re c = search needs
@@ -46,13 +52,16 @@ sub-settled : tie.Need-sub-settled Inv-loop μ-loop
 sub-settled c = c .before .before .before .before .before .loop .inv .on
 
 settled-requires : tie.Need-settled-requires Inv-loop μ-loop
-settled-requires c κs = settled-room (c .before .before .before .before .before .before .before .before .args .s) _ _ _ _ _ _ _ _ (search needs) (c .before .before .before .before .before .before .before .before .pre .3 .free) (c .before .before .before .before .before .loop .inv)
+settled-requires c κs = let s = c .before .before .before .before .before .before .before .before .before .before in settled-room (s .args .s) _ _ _ _ _ _ (omega (arith, s .good)) (s .pre .3 .free) (c .before .before .before .before .before .loop .inv)
 
 same-length : tie.Need-same-length Inv-loop μ-loop
 same-length c = search needs
 
 same-length-2 : tie.Need-same-length-2 Inv-loop μ-loop
 same-length-2 c = search needs
+
+same-length-3 : tie.Need-same-length-3 Inv-loop μ-loop
+same-length-3 c = search needs
 
 returns : tie.Need-returns Inv-loop μ-loop
 returns c = rw (c .settled .ensures) (c .before .before .before .before .before .before .loop .inv)
@@ -66,36 +75,61 @@ group-by-requires c κs = search needs
 descramble-next-requires : tie.Need-descramble-next-requires Inv-loop μ-loop
 descramble-next-requires c κs = search needs
 
+cast-state : tie.Need-cast-state Inv-loop μ-loop
+cast-state c = search needs
+
+mul-sent : tie.Need-mul-sent Inv-loop μ-loop
+mul-sent c = search needs
+
+array-copy-out-sent : tie.Need-array-copy-out-sent Inv-loop μ-loop
+array-copy-out-sent c = search needs
+
+squared-distance-requires : tie.Need-squared-distance-requires Inv-loop μ-loop
+squared-distance-requires c κs = search needs
+
 slice-write-line : tie.Need-slice-write-line Inv-loop μ-loop
-slice-write-line c = search needs
+slice-write-line c = omega (arith, c .before .before .before .before .before .before .before .before .before .before .loop .inv .as-long .line, c .before .before .before .before .before .before .before .before .before .before .before .before .before .before .before .pre .4 .line, c .before .before .before .before .before .before .before .before .before .loop-test .taken)
 
 slice-write-plain : tie.Need-slice-write-plain Inv-loop μ-loop
-slice-write-plain c = search needs
+slice-write-plain c = omega (arith, c .before .before .before .before .before .before .before .before .before .before .loop .inv .as-long .plain, c .before .before .before .before .before .before .before .before .before .before .before .before .before .before .before .pre .4 .plain, c .before .before .before .before .before .before .before .before .before .loop-test .taken)
+
+mul-distance : tie.Need-mul-distance Inv-loop μ-loop
+mul-distance c = omega (arith, c .before .before .before .before .before .before .before .before .before .before .loop .inv .as-long .distance, c .before .before .before .before .before .before .before .before .before .before .before .before .before .before .before .pre .4 .distance, c .before .before .before .before .before .before .before .before .before .loop-test .taken, c .before .before .before .before .before .before .before .before .before .before .before .before .before .before .before .good)
+
+slice-write-distance : tie.Need-slice-write-distance Inv-loop μ-loop
+slice-write-distance c = omega (arith, c .before .before .before .before .before .before .before .before .before .before .loop .inv .as-long .distance, c .before .before .before .before .before .before .before .before .before .before .before .before .before .before .before .pre .4 .distance, c .before .before .before .before .before .before .before .before .before .loop-test .taken)
 
 add-k : tie.Need-add-k Inv-loop μ-loop
-add-k c = search needs
+add-k c = omega (arith, c .before .before .before .before .before .before .before .before .before .loop-test .taken, c .before .before .before .before .before .before .before .before .before .before .before .before .before .before .before .good)
 
 loop-less : tie.Need-loop-less Inv-loop μ-loop
 loop-less c = search needs
 
 loop-again : tie.Need-loop-again Inv-loop μ-loop
 loop-again c =
-    let a = c .before .before .before .before .before .before .before .before .before .before .before .args in
-    let l = c .before .before .before .before .before .before .before .before .loop in
-    settled-again (a .s) _ _ (l .line) (l .plain) _ _ _ (a .from) (l .k) (l .x) (l .bits) (l .inv) (c .before .before .before .before .before .before .before .loop-test .taken) _ _ (toZ-ofZ (sfits-of {w = w16} (c .before .before .before .before .before .before .re .given))) (toZ-ofZ (sfits-of {w = w16} (c .before .before .before .before .before .im .given))) _ _ _ _ _ _
-    (c .before .before .before .before .before .before .before .before .before .before .before .pre .0) (c .before .before .before .before .before .before .before .before .before .before .before .pre .1) (c .before .before .before .before .is-origin .ensures) (c .before .before .before .if1 .left) (c .before .before .state-at .ensures) (c .before .group-by .ensures) (c .descramble-next .ensures) refl refl (search needs) (search needs)
+    let s = c .before .before .before .before .before .before .before .before .before .before .before .before .before .before .before in
+    let a = s .args in
+    let l = c .before .before .before .before .before .before .before .before .before .before .loop in
+    let re = toZ-ofZ (sfits-of {w = w16} (c .before .before .before .before .before .before .before .before .re .given)) in
+    let im = toZ-ofZ (sfits-of {w = w16} (c .before .before .before .before .before .before .before .im .given)) in
+    settled-again (a .s) _ _ _ _ (a .from) (l .k) (l .x) (l .bits) (l .inv) (c .before .before .before .before .before .before .before .before .before .loop-test .taken) _ _ re im _ _ _ _ _ _ _
+    (s .pre .0) (s .pre .1) (c .before .before .before .before .before .before .is-origin .ensures) (c .before .before .before .before .before .if1 .left) (c .before .before .before .before .state-at .ensures) (c .before .before .before .group-by .ensures) (c .before .before .descramble-next .ensures)
+    (from-constellation (a .s .mode) _ _ _ _ _ (sfits-of {w = w16} (c .before .before .before .before .before .before .before .before .re .given)) (sfits-of {w = w16} (c .before .before .before .before .before .before .before .im .given)) (c .before .before .before .before .before .before .before .before .before .before .before .constellation .ensures) (rw (re, im) at (c .squared-distance .ensures))) refl
 
 sub-settled-2 : tie.Need-sub-settled-2 Inv-loop μ-loop
 sub-settled-2 c = c .before .loop .inv .on
 
 settled-requires-2 : tie.Need-settled-requires-2 Inv-loop μ-loop
-settled-requires-2 c κs = settled-room (c .before .before .before .before .args .s) _ _ _ _ _ _ _ _ (search needs) (c .before .before .before .before .pre .3 .free) (c .before .loop .inv)
-
-same-length-3 : tie.Need-same-length-3 Inv-loop μ-loop
-same-length-3 c = search needs
+settled-requires-2 c κs = let s = c .before .before .before .before .before .before in settled-room (s .args .s) _ _ _ _ _ _ (omega (arith, s .good)) (s .pre .3 .free) (c .before .loop .inv)
 
 same-length-4 : tie.Need-same-length-4 Inv-loop μ-loop
 same-length-4 c = search needs
+
+same-length-5 : tie.Need-same-length-5 Inv-loop μ-loop
+same-length-5 c = search needs
+
+same-length-6 : tie.Need-same-length-6 Inv-loop μ-loop
+same-length-6 c = search needs
 
 returns-2 : tie.Need-returns-2 Inv-loop μ-loop
 returns-2 c = rw (c .settled2 .ensures) (c .before .before .loop .inv)
@@ -106,6 +140,7 @@ hear-settled-spec =
     (tie.spec
     Inv-loop
     μ-loop
+    constellation-requires
     loop-holds
     mul-re
     mul-re-2
@@ -119,17 +154,25 @@ hear-settled-spec =
     settled-requires
     same-length
     same-length-2
+    same-length-3
     returns
     state-at-requires
     group-by-requires
     descramble-next-requires
+    cast-state
+    mul-sent
+    array-copy-out-sent
+    squared-distance-requires
     slice-write-line
     slice-write-plain
+    mul-distance
+    slice-write-distance
     add-k
     loop-less
     loop-again
     sub-settled-2
     settled-requires-2
-    same-length-3
     same-length-4
+    same-length-5
+    same-length-6
     returns-2)

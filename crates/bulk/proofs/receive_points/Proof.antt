@@ -1,5 +1,5 @@
 use mathlib.Core.Path.{sym, _∙_}
-use Rattle.bulk.proofs.BlockLaws.{has-bytes, one-by-one, refused-law, taken-law}
+use Rattle.bulk.proofs.BlockLaws.{one-by-one, refused-law, taken-law, holds}
 use borrow.Author.Needs.{needs}
 use Rattle.bulk.proofs.receive_points.Statement.{statement}
 use Rattle.bulk.proofs.receive_points.Tie as tie
@@ -8,12 +8,12 @@ block-fault-requires : tie.Need-block-fault-requires
 block-fault-requires c κs = search needs
 
 returns : tie.Need-returns
-returns c = refused-law _ _ _ _ _ (c .before .block-fault .ensures) (c .if1 .taken)
+returns c = refused-law _ _ _ _ (c .before .block-fault .ensures) (c .if1 .taken)
 
 hear-all-requires : tie.Need-hear-all-requires
 hear-all-requires c κs =
-    let z = sym (c .before .before .before .block-fault .ensures) ∙ c .before .before .if1 .left in
-    (one-by-one _ _ _ _ z, has-bytes _ _ _ _ z .0, has-bytes _ _ _ _ z .1)
+    let z = sym (c .before .before .before .before .block-fault .ensures) ∙ c .before .before .before .if1 .left in
+    (one-by-one _ _ _ z, holds _ _ _ z)
 
 same-length : tie.Need-same-length
 same-length c = search needs
@@ -21,10 +21,20 @@ same-length c = search needs
 same-length-2 : tie.Need-same-length-2
 same-length-2 c = search needs
 
+same-length-3 : tie.Need-same-length-3
+same-length-3 c = search needs
+
 returns-2 : tie.Need-returns-2
-returns-2 c = taken-law _ _ _ _ _ _ _ _ (c .before .before .before .before .before .before .before .before .block-fault .ensures) (c .before .before .before .before .before .before .before .if1 .left) (c .before .before .before .before .hear-all .ensures .0) (c .before .before .before .before .hear-all .ensures .1) (c .before .before .before .before .hear-all .ensures .2)
+returns-2 c = taken-law _ _ _ _ _ _ (c .before .before .before .before .before .before .before .before .before .before .before .block-fault .ensures) (c .before .before .before .before .before .before .before .before .before .before .if1 .left) (c .before .before .before .before .before .before .hear-all .ensures .0) (c .before .before .before .before .before .before .hear-all .ensures .1)
 
 pub receive-points-spec : {M : Type 1} → statement M
 receive-points-spec =
     tie.close
-    (tie.spec block-fault-requires returns hear-all-requires same-length same-length-2 returns-2)
+    (tie.spec
+    block-fault-requires
+    returns
+    hear-all-requires
+    same-length
+    same-length-2
+    same-length-3
+    returns-2)

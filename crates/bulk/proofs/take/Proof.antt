@@ -29,10 +29,10 @@ moved-requires-2 : tie.Need-moved-requires-2
 moved-requires-2 c κs = search needs
 
 returns : tie.Need-returns
-returns c = take-reference _ _ _ _ (search needs) (c .moved .ensures)
+returns c = take-reference _ _ _ _ _ (search needs) (c .moved .ensures)
 
 returns-2 : tie.Need-returns-2
-returns-2 c = take-bits _ _ _ _ _ _ _ _ (search needs) (c .before .before .before .before .before .before .before .before .before .before .pre .0) (c .before .before .before .before .before .group-by .ensures) (c .before .before .before .before .descramble-group .ensures) (c .moved2 .ensures)
+returns-2 c = take-bits _ _ _ _ _ _ _ _ _ (search needs) (c .before .before .before .before .before .before .before .before .before .before .pre .0) (c .before .before .before .before .before .group-by .ensures) (c .before .before .before .before .descramble-group .ensures) (c .moved2 .ensures)
 
 pub take-spec : {M : Type 1} → statement M
 take-spec =

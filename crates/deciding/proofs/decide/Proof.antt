@@ -1,7 +1,6 @@
-use mir.Facts.{toZ-ofZ}
 use mathlib.Core.Path.{sym, _∙_}
-use Rattle.deciding.proofs.RingLaws.{looked-up, origin-none}
-use Rattle.deciding.proofs.DecideLaws.{told}
+use mir.Facts.{toZ-ofZ}
+use Rattle.deciding.proofs.DecideLaws.{told-origin, told-state}
 use borrow.Author.Needs.{needs}
 use Rattle.deciding.proofs.decide.Statement.{statement}
 use Rattle.deciding.proofs.decide.Tie as tie
@@ -13,21 +12,21 @@ returns : tie.Need-returns
 returns c =
     let a = c .before .before .args in
     let f = c .before .before .fits in
-    told (a .mode) _ _ (origin-none (a .mode) (a .re) (a .im) (sym (rw (toZ-ofZ (f .re), toZ-ofZ (f .im)) at (c .before .is-origin .ensures)) ∙ c .if1 .taken))
+    told-origin (a .mode) (a .re) (a .im) (sym (rw (toZ-ofZ (f .re), toZ-ofZ (f .im)) at (c .before .is-origin .ensures)) ∙ c .if1 .taken)
 
-ring-of-requires : tie.Need-ring-of-requires
-ring-of-requires c κs = search needs
+state-of-requires : tie.Need-state-of-requires
+state-of-requires c κs = search needs
 
-state-at-requires : tie.Need-state-at-requires
-state-at-requires c κs = search needs
+distance-requires : tie.Need-distance-requires
+distance-requires c κs = search needs
 
 returns-2 : tie.Need-returns-2
 returns-2 c =
-    let a = c .before .before .before .before .before .args in
-    let f = c .before .before .before .before .before .fits in
-    told (a .mode) _ _ (looked-up (a .mode) (a .re) (a .im) _ _ (c .before .before .ring-of .ensures) (rw (toZ-ofZ (f .re), toZ-ofZ (f .im)) at (c .state-at .ensures))
-    (sym (rw (toZ-ofZ (f .re), toZ-ofZ (f .im)) at (c .before .before .before .before .is-origin .ensures)) ∙ c .before .before .before .if1 .left))
+    let a = c .before .before .before .before .args in
+    let f = c .before .before .before .before .fits in
+    told-state (a .mode) (a .re) (a .im) _ _ (rw (toZ-ofZ (f .re), toZ-ofZ (f .im)) at (c .before .state-of .ensures)) (rw (toZ-ofZ (f .re), toZ-ofZ (f .im)) at (c .distance .ensures))
+    (sym (rw (toZ-ofZ (f .re), toZ-ofZ (f .im)) at (c .before .before .before .is-origin .ensures)) ∙ c .before .before .if1 .left)
 
 pub decide-spec : {M : Type 1} → statement M
 decide-spec =
-    tie.close (tie.spec is-origin-requires returns ring-of-requires state-at-requires returns-2)
+    tie.close (tie.spec is-origin-requires returns state-of-requires distance-requires returns-2)

@@ -42,8 +42,32 @@ cast-b-4 c = search needs
 slice-write-b-8 : tie.Need-slice-write-b-8
 slice-write-b-8 c = simp length-set (omega arith)
 
+cast-b-5 : tie.Need-cast-b-5
+cast-b-5 c = search needs
+
+slice-write-b-9 : tie.Need-slice-write-b-9
+slice-write-b-9 c = simp length-set (omega arith)
+
+cast-b-6 : tie.Need-cast-b-6
+cast-b-6 c = search needs
+
+slice-write-b-10 : tie.Need-slice-write-b-10
+slice-write-b-10 c = simp length-set (omega arith)
+
+cast-b-7 : tie.Need-cast-b-7
+cast-b-7 c = search needs
+
+slice-write-b-11 : tie.Need-slice-write-b-11
+slice-write-b-11 c = simp length-set (omega arith)
+
+cast-b-8 : tie.Need-cast-b-8
+cast-b-8 c = search needs
+
+slice-write-b-12 : tie.Need-slice-write-b-12
+slice-write-b-12 c = simp length-set (omega arith)
+
 same-length : tie.Need-same-length
-same-length c = search needs
+same-length c = simp length-set
 
 returns : tie.Need-returns
 unfolding answerBytes
@@ -65,5 +89,13 @@ put-answer-spec =
     slice-write-b-7
     cast-b-4
     slice-write-b-8
+    cast-b-5
+    slice-write-b-9
+    cast-b-6
+    slice-write-b-10
+    cast-b-7
+    slice-write-b-11
+    cast-b-8
+    slice-write-b-12
     same-length
     returns)

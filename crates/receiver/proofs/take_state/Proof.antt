@@ -24,8 +24,8 @@ enum-known-reference c = search needs
 group-of-requires : tie.Need-group-of-requires
 group-of-requires c κs = search needs
 
-descramble-group-requires : tie.Need-descramble-group-requires
-descramble-group-requires c κs = search needs
+descramble-requires : tie.Need-descramble-requires
+descramble-requires c κs = search needs
 
 add-moved-2 : tie.Need-add-moved-2
 add-moved-2 c = search needs
@@ -34,10 +34,10 @@ moved-requires-2 : tie.Need-moved-requires-2
 moved-requires-2 c κs = search needs
 
 returns-2 : tie.Need-returns-2
-returns-2 c = reference-law _ _ _ _ (search needs) (c .before .before .before .before .if1 .left) (search needs) (c .moved .ensures)
+returns-2 c = reference-law _ _ _ _ _ (search needs) (c .before .before .before .before .if1 .left) (search needs) (c .moved .ensures)
 
 returns-3 : tie.Need-returns-3
-returns-3 c = bits-law _ _ _ _ (search needs) (c .before .before .before .before .before .before .before .before .before .if1 .left) _ _ _ (search needs) (c .before .before .before .before .group-of .ensures) (c .before .before .before .descramble-group .ensures) (c .moved2 .ensures)
+returns-3 c = bits-law _ _ _ _ _ (search needs) (c .before .before .before .before .before .before .before .before .before .if1 .left) _ _ _ (search needs) (c .before .before .before .before .group-of .ensures) (c .before .before .before .descramble .ensures) (c .moved2 .ensures)
 
 pub take-state-spec : {M : Type 1} → statement M
 take-state-spec =
@@ -50,7 +50,7 @@ take-state-spec =
     moved-requires
     enum-known-reference
     group-of-requires
-    descramble-group-requires
+    descramble-requires
     add-moved-2
     moved-requires-2
     returns-2

@@ -1,54 +1,48 @@
-use native.Mathlib.Nat.{mul-le-mul-left}
-use native.Mathlib.Omega.{arith}
-use Rattle.line.proofs.ByMode.{width-range}
-use Rattle.scrambler.proofs.GroupLaws.{full-law}
+use Rattle.line.specs.Mode.{width, farTap, capacity}
+use Rattle.line.proofs.Tests.{tests}
+use Rattle.scrambler.specs.Register.{nearTap}
+use Rattle.scrambler.proofs.GroupLaws.{column-law}
 use borrow.Author.Needs.{needs}
 use Rattle.scrambler.proofs.descramble_next.Statement.{statement}
 use Rattle.scrambler.proofs.descramble_next.Tie as tie
 
-low-bits-requires : tie.Need-low-bits-requires
-low-bits-requires c κs = search needs
+next-bits-requires : tie.Need-next-bits-requires
+next-bits-requires c κs = search needs
 
-cast-low : tie.Need-cast-low
-cast-low c = search needs
+next-bits-requires-2 : tie.Need-next-bits-requires-2
+next-bits-requires-2 c κs = search needs
 
-width-of-requires : tie.Need-width-of-requires
-width-of-requires c κs = search needs
+next-bits-requires-3 : tie.Need-next-bits-requires-3
+next-bits-requires-3 c κs = search needs
 
-group-size-requires : tie.Need-group-size-requires
-group-size-requires c κs = omega (arith, width-range (c .before .before .args .mode))
-
-mul-keep-bits : tie.Need-mul-keep-bits
-mul-keep-bits c = omega (arith, mul-le-mul-left (c .before .before .before .args .n) (c .group-size .ensures .1))
-
-add-keep-bits : tie.Need-add-keep-bits
-add-keep-bits c = omega (arith, mul-le-mul-left (c .before .before .before .args .n) (c .group-size .ensures .1))
-
-keep-bits-requires : tie.Need-keep-bits-requires
-keep-bits-requires c κs = search needs
-
-mixed-requires : tie.Need-mixed-requires
-mixed-requires c κs = search needs
-
-capacity-of-requires : tie.Need-capacity-of-requires
-capacity-of-requires c κs = search needs
+next-bits-requires-4 : tie.Need-next-bits-requires-4
+next-bits-requires-4 c κs = search needs
 
 returns : tie.Need-returns
-returns c =
-    let a = c .before .before .before .before .before .before .args in
-    full-law (a .mode) (a .role) (a .n) (a .line) _ _ _ _ _ _ (c .before .before .before .before .width-of .ensures) (c .capacity-of .ensures) (c .before .before .before .before .before .low-bits .ensures .0) (c .before .before .before .group-size .ensures .0) (c .before .before .keep-bits .ensures) (c .before .mixed .ensures .0)
+unfolding width farTap capacity nearTap
+returns c = let a = c .before .before .args in column-law 1 (a .mode) (a .role) (a .n) (a .line) _ (c .next-bits .ensures) (search tests) (search tests) (search tests) (search tests)
+
+returns-2 : tie.Need-returns-2
+unfolding width farTap capacity nearTap
+returns-2 c = let a = c .before .before .before .args in column-law 2 (a .mode) (a .role) (a .n) (a .line) _ (c .next-bits2 .ensures) (search tests) (search tests) (search tests) (search tests)
+
+returns-3 : tie.Need-returns-3
+unfolding width farTap capacity nearTap
+returns-3 c = let a = c .before .before .before .before .args in column-law 3 (a .mode) (a .role) (a .n) (a .line) _ (c .next-bits3 .ensures) (search tests) (search tests) (search tests) (search tests)
+
+returns-4 : tie.Need-returns-4
+unfolding width farTap capacity nearTap
+returns-4 c = let a = c .before .before .before .before .args in column-law 4 (a .mode) (a .role) (a .n) (a .line) _ (c .next-bits4 .ensures) (search tests) (search tests) (search tests) (search tests)
 
 pub descramble-next-spec : {M : Type 1} → statement M
 descramble-next-spec =
     tie.close
     (tie.spec
-    low-bits-requires
-    cast-low
-    width-of-requires
-    group-size-requires
-    mul-keep-bits
-    add-keep-bits
-    keep-bits-requires
-    mixed-requires
-    capacity-of-requires
-    returns)
+    next-bits-requires
+    next-bits-requires-2
+    next-bits-requires-3
+    next-bits-requires-4
+    returns
+    returns-2
+    returns-3
+    returns-4)
