@@ -1,6 +1,6 @@
 -- A block is the single calls one after the other, and the ways of its code lead to that. Assumes nothing.
 use Prim.Native.Nat.{ℕ, zero, suc, _+_, _*_, _-_, _/_, _%_, _<_, _≤_}
-use mathlib.Core.Path.{_≡_, refl, sym, ap, ap₂, _∙_, subst}
+use mathlib.Core.Path.{_≡_, refl, sym, ap, _∙_, subst}
 use mathlib.Core.Bool.{Bool, true, false, _&&_, and-assoc}
 use mathlib.Core.List.{List, [], _∷_, map}
 use native.Mathlib.Omega.{arith}
@@ -36,7 +36,7 @@ use Rattle.scrambler.proofs.GroupLaws.{descrambled-small, after-full}
 use Rattle.receiver.specs.declared.Reference.{Reference}
 use Rattle.receiver.specs.declared.Reference.the-variants.{Nothing as none, State as some}
 use Rattle.receiver.specs.declared.Receiver.{Receiver}
-use Rattle.receiver.specs.Receiver.{receiver, point, Answer, refused, lost, fieldsOk, stateRefusal, inSector, hasRoom, eventRefusal, refusal, stateAnswer, pointAnswer, eventAnswer, answer, forgotten, stateLine, stateNext, pointNext, eventNext, next}
+use Rattle.receiver.specs.Receiver.{receiver, point, refused, lost, fieldsOk, stateRefusal, inSector, hasRoom, eventRefusal, refusal, stateAnswer, pointAnswer, eventAnswer, answer, forgotten, stateLine, stateNext, pointNext, eventNext, next}
 use Rattle.receiver.specs.Calls.{after, EachAccepted, Heard, answers}
 use Rattle.receiver.proofs.OutcomeLaws.{in-a-sector, accepted-placed}
 use Rattle.receiver.proofs.CallLaws.{accepted-valid, accepted-off, handed-back-passes, same-next, heard-accepted, heard-all}

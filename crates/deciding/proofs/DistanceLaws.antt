@@ -8,7 +8,7 @@ use native.Mathlib.Nat.{mul-le-mul, mul-pos, mod-eq-of-lt}
 use native.Mathlib.Decide.{decLt}
 use borrow.Author.Tests.{leb-true}
 use lib.Dec.{T, leb}
-use lib.IntN.{ℤ, pos, negsuc, negℤ, negℤ-negℤ, natAbs, subℕ, _+ℤ_, _-ℤ_, negℤ-+ℤ, -ℤ-+ℤ-cancel, +ℤ-idl, +ℤ-invr}
+use lib.IntN.{ℤ, pos, negsuc, negℤ, natAbs, subℕ, _+ℤ_, _-ℤ_, negℤ-+ℤ, -ℤ-+ℤ-cancel, +ℤ-idl, +ℤ-invr}
 use lib.ListN.{getD}
 use lib.Signed.{leZ, nonNeg}
 use mir.Syntax.{w16, w32}
@@ -16,10 +16,9 @@ use mir.Val.{Fits, SFits, toZ, ofZ}
 use mir.Facts.{toZ-ofZ}
 use Rattle.line.specs.declared.Point.{Point}
 use Rattle.line.specs.Table.{every}
-use Rattle.line.specs.Mode.{isMode, isState, turns, quarterSteps}
 use Rattle.line.specs.Point.{at, turned, sent27, levels32, sent32, sentPoint}
 use Rattle.line.proofs.ByMode.{by-all}
-use Rattle.line.proofs.Signed.{back, back32, small, below, test-is}
+use Rattle.line.proofs.Signed.{back32, small, below, test-is}
 use Rattle.line.proofs.Signed.{is-true as so}
 use Rattle.line.proofs.StateLaws.{sent-turned}
 use Rattle.line.proofs.TableLaws.{and-left, and-right, is-true}

@@ -1,5 +1,5 @@
 -- Within range the distance of a decided point is bounded, and it is no minimum. Assumes nothing.
-use mathlib.Core.Path.{_≡_, refl, sym, ap, _∙_, subst}
+use mathlib.Core.Path.{_≡_, refl, sym, ap, subst}
 use mathlib.Core.Bool.{Bool, true, false, _&&_, cond}
 use Prim.Native.Nat.{ℕ, zero, suc, _+_, _*_, _%_, _<_, _≤_}
 use native.Mathlib.Omega.{arith}
@@ -9,11 +9,11 @@ use lib.Dec.{T, eqb, ltb, leb}
 use lib.IntN.{ℤ, pos, negsuc, natAbs, subℕ}
 use lib.ListN.{getD}
 use Rattle.line.specs.declared.Point.{Point}
-use Rattle.line.specs.Mode.{isMode, isState, quadrant, nextQuadrant, step, turn, turns, quarterSteps}
+use Rattle.line.specs.Mode.{isMode, quadrant, nextQuadrant, step, turn, turns, quarterSteps}
 use Rattle.line.specs.Point.{at, coordinateIn, inRange, isOrigin, turned, turnedBy, sent27, levels32, sent32, sentPoint}
 use Rattle.line.proofs.StateLaws.{mode-cases}
 use Rattle.line.proofs.TableLaws.{and-left, and-right, is-true}
-use Rattle.deciding.specs.Decide.{Region, State, Origin, NoSector, inFirst, sector, outer, first, turnedAnswer, quarters, decide}
+use Rattle.deciding.specs.Decide.{Region, State, Origin, NoSector, inFirst, sector, first, turnedAnswer, quarters, decide}
 use Rattle.deciding.specs.Distance.{squaredDistance, distance}
 use Rattle.deciding.specs.Sizes.{sq}
 use Rattle.deciding.specs.Laws.{MostDistance, NoMinimum}

@@ -4,7 +4,6 @@ use mathlib.Core.Bool.{Bool, true, false}
 use Prim.Native.Nat.{ℕ}
 use native.Mathlib.Omega.{arith}
 use Rattle.deciding.specs.Decide.{State, Origin, NoSector}
-use Rattle.line.specs.declared.Point.{Point}
 use Rattle.line.specs.Point.{isOrigin}
 use Rattle.deciding.specs.Laws.{EachInASector}
 use Rattle.deciding.proofs.RingLaws.{by-ring, origin-none}

@@ -143,7 +143,7 @@ pub fn squared_distance(p: Point, re: i16, im: i16) -> SquaredUnits
 }
 
 // The squared distance from a point to the sent point of a state.
-pub fn distance(mode: u8, s: u8, re: i16, im: i16) -> SquaredUnits
+fn distance(mode: u8, s: u8, re: i16, im: i16) -> SquaredUnits
     ensures { λ r. ⌜ r .0 ≡ distanceSpec mode s (at re im) ⌝ }
 {
     squared_distance(line::sent_point(mode, s), re, im)

@@ -1,4 +1,3 @@
-use mathlib.Core.Path.{sym}
 use mir.Facts.{toZ-ofZ}
 use borrow.Author.Needs.{needs}
 use Rattle.line.proofs.Tests.{tests}
