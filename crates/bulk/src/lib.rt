@@ -163,7 +163,7 @@ fn hear_settled(
         let y = deciding::state_at(s.mode, ring, re, im);
         let group = coding::group_by(s.mode, rows, x, y);
         let d = scrambler::descramble_next(s.mode, s.role, bits, group);
-        let state = (y as usize) % 16;
+        let state = (y % 16) as usize;
         let sent = constellation[state];
         let u = deciding::squared_distance(sent, re, im);
         line[k] = group;

@@ -56,7 +56,7 @@ abbrev pub decidedAs : ℕ → Event → ℕ
 decidedAs m (point p) = stateIn (decide m p)
 decidedAs m (gap n) = 0
 
--- the bits of an answer. R-1: "The comparison of two receivers in the third demand is about bits and leaves the distance aside."
+-- the bits of an answer, without its distance
 abbrev pub lineOf : Answer → List ℕ
 lineOf (refused n) = []
 lineOf (reference d) = []

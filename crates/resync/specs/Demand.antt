@@ -15,7 +15,8 @@ use Rattle.sender.specs.Calls.{DataPoint}
 use Rattle.resync.specs.Assured.{assuredPoint, dataFrom, AllSettled}
 use Rattle.resync.specs.DataPoints.{Consecutive, Handed, givenFrom}
 
--- what is vouched for of two lists A and B of accepted points, of one mode and role
+-- what is vouched for of two lists A and B of accepted points, of one mode and role: of their bits. An answer's distance is not read
+-- (document 02, R-1: "The comparison of two receivers in the third demand is about bits and leaves the distance aside.").
 pub record Vouched (m role : ℕ) (A B : List Heard) : Type 0 where
   -- "The line bits from the second point on are equal EXACTLY when the decided states of one list are those of the other, all turned by
   -- one whole number of the mode's steps (mode 4: the first point by its quadrant only)."

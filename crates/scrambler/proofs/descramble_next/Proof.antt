@@ -20,19 +20,19 @@ next-bits-requires-4 c κs = search needs
 
 returns : tie.Need-returns
 unfolding width farTap capacity nearTap
-returns c = let a = c .before .before .args in column-law 1 (a .mode) (a .role) (a .n) (a .line) _ (c .next-bits .ensures) (search tests) (search tests) (search tests) (search tests)
+returns c = let a = c .before .before .args in column-law _ (a .mode) (a .role) (a .n) (a .line) _ (c .next-bits .ensures) (search tests) (search tests) (search tests) (search tests)
 
 returns-2 : tie.Need-returns-2
 unfolding width farTap capacity nearTap
-returns-2 c = let a = c .before .before .before .args in column-law 2 (a .mode) (a .role) (a .n) (a .line) _ (c .next-bits2 .ensures) (search tests) (search tests) (search tests) (search tests)
+returns-2 c = let a = c .before .before .before .args in column-law _ (a .mode) (a .role) (a .n) (a .line) _ (c .next-bits2 .ensures) (search tests) (search tests) (search tests) (search tests)
 
 returns-3 : tie.Need-returns-3
 unfolding width farTap capacity nearTap
-returns-3 c = let a = c .before .before .before .before .args in column-law 3 (a .mode) (a .role) (a .n) (a .line) _ (c .next-bits3 .ensures) (search tests) (search tests) (search tests) (search tests)
+returns-3 c = let a = c .before .before .before .before .args in column-law _ (a .mode) (a .role) (a .n) (a .line) _ (c .next-bits3 .ensures) (search tests) (search tests) (search tests) (search tests)
 
 returns-4 : tie.Need-returns-4
 unfolding width farTap capacity nearTap
-returns-4 c = let a = c .before .before .before .before .args in column-law 4 (a .mode) (a .role) (a .n) (a .line) _ (c .next-bits4 .ensures) (search tests) (search tests) (search tests) (search tests)
+returns-4 c = let a = c .before .before .before .before .args in column-law _ (a .mode) (a .role) (a .n) (a .line) _ (c .next-bits4 .ensures) (search tests) (search tests) (search tests) (search tests)
 
 pub descramble-next-spec : {M : Type 1} → statement M
 descramble-next-spec =
