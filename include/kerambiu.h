@@ -78,7 +78,8 @@ extern "C" {
  * The distance is that from the received point to the sent point of the decided state, in squared units, 1024 units to one
  * level: the squares of how far re and im are apart, added. A point in range has 419430400 at most. No minimum is promised: in
  * mode 2 the decided state is not always that of the nearest sent point. There (1, 0) is decided 0 with the distance 16769025,
- * and is 16767841 from the sent point of state 1.
+ * and is 16767841 from the sent point of state 1. A mean over distances leaves out gaps and, in a block, the points beside
+ * KERAMBIU_ORIGIN: their 0 is no measurement.
  */
 #define KERAMBIU_ANSWER_BYTES 12
 
