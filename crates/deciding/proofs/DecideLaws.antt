@@ -91,9 +91,10 @@ Off m (State y) = T (isState m y)
 Off m Origin = ⊥
 Off m NoSector = Unit {0}
 
-either : (m : ℕ) (b : Bool) (c d : Region) → Off m c → Off m d → Off m (cond b c d)
-either m true c d p q = p
-either m false c d p q = q
+-- what holds of both regions holds of the chosen one
+pub either : (P : Region → Type 0) (b : Bool) (c d : Region) → P c → P d → P (cond b c d)
+either P true c d p q = p
+either P false c d p q = q
 
 sector-off : (z : Point) → Off 2 (sector z)
 unfolding sector isState states
@@ -102,8 +103,8 @@ sector-off z =
     let x : ℤ = pos 2 *ℤ square (z .re) in
     let y : ℤ = pos 2 *ℤ square (z .im) in
     let between : Region = cond (ltZ x s && ltZ y s) (State 1) NoSector in
-    either 2 (ltZ s x) (State 0) (cond (ltZ s y) (State 2) between) tt
-    (either 2 (ltZ s y) (State 2) between tt (either 2 (ltZ x s && ltZ y s) (State 1) NoSector tt tt))
+    either (Off 2) (ltZ s x) (State 0) (cond (ltZ s y) (State 2) between) tt
+    (either (Off 2) (ltZ s y) (State 2) between tt (either (Off 2) (ltZ x s && ltZ y s) (State 1) NoSector tt tt))
 
 corner-state : (a b : Bool) → T (isState 4 (12 + cond a 1 0 + 2 * cond b 1 0))
 unfolding isState states

@@ -18,7 +18,7 @@ use Rattle.deciding.specs.Distance.{squaredDistance, distance}
 use Rattle.deciding.specs.Sizes.{sq}
 use Rattle.deciding.specs.Laws.{MostDistance, NoMinimum}
 use Rattle.deciding.proofs.Arcs.{arc, state1, ring3, state3, decided2, ring4, outerSize, state4, decidedArc}
-use Rattle.deciding.proofs.DecideLaws.{Off, decide-off, at-origin, turn-decides}
+use Rattle.deciding.proofs.DecideLaws.{Off, either, decide-off, at-origin, turn-decides}
 use Rattle.deciding.proofs.Differences.{sub-pos, sub-neg}
 use Rattle.deciding.proofs.DistanceLaws.{squares-most, turn-keeps}
 use Rattle.deciding.proofs.RegionLaws.{base, off-turned}
@@ -39,10 +39,6 @@ difference-most x c n h k = go (decLt x c)
     go : Dec (x < c) → natAbs (subℕ x c) ≤ n
     go (yes l) = rw (sub-neg x c l) (omega arith)
     go (no l) = rw (sub-pos x c (omega (arith, l))) (omega arith)
-
-either : (m : ℕ) (z : Point) (b : Bool) (c d : Region) → (b ≡ true → Within m z c) → (b ≡ false → Within m z d) → Within m z (cond b c d)
-either m z true c d p q = p refl
-either m z false c d p q = q refl
 
 module _ (a b : ℕ) (ha : suc a ≤ 16384) (hb : b ≤ 16384) where
   abbrev here : Point
@@ -72,10 +68,10 @@ module _ (a b : ℕ) (ha : suc a ≤ 16384) (hb : b ≤ 16384) where
   mode-2 : Within 2 here (decidedArc 2 (arc 0 (suc a) b))
   unfolding decidedArc decided2 sentPoint sent27
   mode-2 =
-      either 2 here (ltb (sq (suc a + b)) (2 * sq (suc a))) (State 0) _ (λ e. along 2 refl)
-      (λ e. either 2 here (ltb (sq (suc a + b)) (2 * sq b)) (State 2) _ (λ f. across 2 refl)
-      (λ f. either 2 here (ltb (2 * sq (suc a)) (sq (suc a + b))) _ NoSector
-      (λ g. either 2 here (ltb (2 * sq b) (sq (suc a + b))) (State 1) NoSector (λ h. between) (λ h. tt)) (λ g. tt)))
+      either (Within 2 here) (ltb (sq (suc a + b)) (2 * sq (suc a))) (State 0) _ (along 2 refl)
+      (either (Within 2 here) (ltb (sq (suc a + b)) (2 * sq b)) (State 2) _ (across 2 refl)
+      (either (Within 2 here) (ltb (2 * sq (suc a)) (sq (suc a + b))) _ NoSector
+      (either (Within 2 here) (ltb (2 * sq b) (sq (suc a + b))) (State 1) NoSector between tt) tt))
 
   mode-3 : Within 3 here (decidedArc 3 (arc 0 (suc a) b))
   unfolding decidedArc state3 ring3 distance squaredDistance sentPoint levels32 sent32
