@@ -16,8 +16,8 @@
  *    5  a data byte above 1
  *    6  data bits not a multiple of w (none is fine)
  *    7  lent numbers too few from the offset, or an offset past their end; also fewer lent bytes than a state, an answer, a
- *       block or a listing has, fewer lent numbers than a block has distances, no lent number for a count, and an odd count of
- *       the numbers of points
+ *       block or a listing has, fewer lent numbers than a block has distances or a track has sums, no lent number for a count,
+ *       and an odd count of the numbers of points
  *    8  a coordinate outside -16384 to 16384
  *    9  a gap, or a lost count to append, of 0
  *   10  a mode 2 point off the origin in none of the eight sectors; no point in whole numbers is one
@@ -210,12 +210,22 @@ uint8_t kerambiu_read(const uint8_t *store, size_t store_len, int64_t *out, size
                       size_t count_len);
 
 /*
- * Writes the listing of a store into the lent bytes; count[0] becomes how many bytes the text has. A store that 11 to 15 refuse
- * has the one line `refused N` for its listing.
+ * Writes the listing of a store into the lent bytes; count[0] becomes how many bytes the text has. The listing of an accepted
+ * store ends with the line `sum points P lost L gaps G`, the three numbers of kerambiu_sums. A store that 11 to 15 refuse has
+ * the one line `refused N` for its listing.
  *    7        no lent number for the count; fewer bytes than KERAMBIU_LISTING_BYTES, which any listing fits into
  */
-#define KERAMBIU_LISTING_BYTES 372591
+#define KERAMBIU_LISTING_BYTES 372645
 uint8_t kerambiu_list(const uint8_t *store, size_t store_len, uint8_t *out, size_t out_len, size_t *count, size_t count_len);
+
+/*
+ * Sums up a store: sums[0] becomes the count of decided points, sums[1] the lost intervals, a point at the origin being one,
+ * and sums[2] the count of gaps, which are the lost records, each by itself also beside another, and the points at the origin.
+ * The first two add up to the store's total. Lent numbers beyond the three stay as they are.
+ *    7        fewer than three lent numbers
+ *   11 to 15  the store
+ */
+uint8_t kerambiu_sums(const uint8_t *store, size_t store_len, uint64_t *sums, size_t sums_len);
 
 #ifdef __cplusplus
 }

@@ -2,8 +2,9 @@
  * A receiver in mode 1 takes (4096, 0), (100, 4000), a gap of 3 and (-4096, 0), and prints a line for each event: the place
  * before it, its kind, and bits (line, then data, - unsettled) or count; for a point also its distance from the sent point in
  * squared units, here 100 * 100 + 96 * 96 for the second one. Then the same events, all points as sent, go into a track store,
- * and its listing is printed, which has no distances.
+ * and its listing is printed, which has no distances, and its sums, which the listing's last line has too.
  */
+#include <inttypes.h>
 #include <stdio.h>
 
 #include "kerambiu.h"
@@ -60,11 +61,10 @@ static void gap(uint32_t n)
     print_answer(place, kerambiu_receive_gap(state, sizeof state, n, answer, sizeof answer));
 }
 
-/* Puts the events into a store and prints its listing; 0, or the number of the first call that is refused. */
-static unsigned list_store(void)
+/* Puts the events into a store; 0, or the number of the first call that is refused. */
+static unsigned fill_store(void)
 {
     static const int16_t points[] = {4096, 0, 0, 4096};
-    size_t count[1];
     unsigned refusal = kerambiu_make(store, sizeof store, 1, 0);
     if (refusal == 0)
         refusal = kerambiu_append_points(store, sizeof store, points, 4);
@@ -72,10 +72,24 @@ static unsigned list_store(void)
         refusal = kerambiu_append_lost(store, sizeof store, 3);
     if (refusal == 0)
         refusal = kerambiu_append_point(store, sizeof store, -4096, 0);
-    if (refusal == 0)
-        refusal = kerambiu_list(store, sizeof store, text, sizeof text, count, 1);
+    return refusal;
+}
+
+static unsigned print_listing(void)
+{
+    size_t count[1];
+    unsigned refusal = kerambiu_list(store, sizeof store, text, sizeof text, count, 1);
     if (refusal == 0)
         fwrite(text, 1, count[0], stdout);
+    return refusal;
+}
+
+static unsigned print_sums(void)
+{
+    uint64_t sums[3];
+    unsigned refusal = kerambiu_sums(store, sizeof store, sums, 3);
+    if (refusal == 0)
+        printf("decided points %" PRIu64 ", lost intervals %" PRIu64 ", gaps %" PRIu64 "\n", sums[0], sums[1], sums[2]);
     return refusal;
 }
 
@@ -91,5 +105,10 @@ int main(void)
     gap(3);
     point(-4096, 0);
     printf("total %u\n", u32_at(state + 12));
-    return list_store();
+    refusal = fill_store();
+    if (refusal == 0)
+        refusal = print_listing();
+    if (refusal == 0)
+        refusal = print_sums();
+    return refusal;
 }

@@ -1,12 +1,13 @@
 //! The line recorder's symbol codec in plain Rust, written from document 01
-//! (`01-scope.md`), request R-1 of document 02 (`02-change-requests.md`) and
-//! Recommendations V.27 ter (000) and V.32 (001).
+//! (`01-scope.md`), requests of document 02
+//! (`02-change-requests.md`) and Recommendations V.27 ter (000) and V.32 (001).
 //!
 //! It is the outside implementation that the proved one is compared with.
 //! Every public call is total; a refused call gives its number alone and leaves
 //! states and buffers as they were.
 
 pub mod code;
+pub mod limits;
 pub mod listing;
 pub mod mode;
 pub mod point;
@@ -16,6 +17,7 @@ pub mod rng;
 pub mod scrambler;
 pub mod sender;
 pub mod store;
+pub mod sums;
 pub mod training;
 pub mod tuned;
 pub mod units;

@@ -1,9 +1,11 @@
-//! The listing of a store (document 01, "Listing program"). It has no distances.
+//! The listing of a store (document 01, "Listing program"), with the line of its
+//! sums at the end (document 02, R-2). It has no distances.
 
 use crate::mode::Mode;
 use crate::receiver::{self, Answer, Receiver};
 use crate::refusal::Refusal;
 use crate::store::{Event, Track};
+use crate::sums::Sums;
 
 /// The text of a store's listing, or the one line of a refused store.
 pub fn list(store: &[u8]) -> Vec<u8> {
@@ -23,13 +25,16 @@ fn list_track(store: &[u8]) -> Result<String, Refusal> {
         track.total()
     );
     let mut state = receiver::fresh(track.mode(), track.role())?;
+    let mut sums = Sums::default();
     for event in track.events() {
         let (answer, next) = receive(state, event)?;
         text.push_str(&state.place.0.to_string());
         push_answer(&mut text, answer, width);
         text.push('\n');
+        sums.count(event);
         state = next;
     }
+    text.push_str(&format!("{sums}\n"));
     Ok(text)
 }
 

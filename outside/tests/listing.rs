@@ -9,7 +9,7 @@ fn text(store: &[u8]) -> String {
 }
 
 #[test]
-fn the_example_of_document_01() {
+fn the_example_of_document_01_with_its_sums() {
     let mut store = [0xee; 4 * 32];
     make(&mut store, 1, 0).unwrap();
     append_point(&mut store, 4096, 0).unwrap();
@@ -20,7 +20,8 @@ fn the_example_of_document_01() {
                     0 ref\n\
                     1 bits 01 --\n\
                     2 lost 3\n\
-                    5 ref\n";
+                    5 ref\n\
+                    sum points 3 lost 3 gaps 1\n";
     assert_eq!(text(&store), expected);
 }
 
@@ -39,15 +40,18 @@ fn marks_stand_beside_settled_bits() {
                     3 bits 000 -01\n\
                     4 bits 001 101\n\
                     5 lost 1\n\
-                    6 ref\n";
+                    6 ref\n\
+                    sum points 6 lost 1 gaps 1\n";
     assert_eq!(text(&store), expected);
 }
 
 #[test]
-fn an_empty_track_has_one_line() {
+fn an_empty_track_has_its_first_and_its_last_line() {
     let mut store = [0; 2 * 32];
     make(&mut store, 4, 1).unwrap();
-    assert_eq!(text(&store), "track mode 4 role 1 total 0\n");
+    let expected = "track mode 4 role 1 total 0\n\
+                    sum points 0 lost 0 gaps 0\n";
+    assert_eq!(text(&store), expected);
 }
 
 #[test]
@@ -67,7 +71,7 @@ fn a_refused_store_has_one_line() {
 }
 
 #[test]
-fn a_listing_has_a_line_for_each_event_and_one() {
+fn a_listing_has_a_line_for_each_event_and_two() {
     let mut rng = Rng::new(9);
     for mode in 1..=4 {
         let mut store = vec![0xee; 100 * 32];
@@ -86,7 +90,7 @@ fn a_listing_has_a_line_for_each_event_and_one() {
             events += 1;
         }
         let listing = text(&store);
-        assert_eq!(listing.lines().count(), events + 1);
+        assert_eq!(listing.lines().count(), events + 2);
         let first = format!("track mode {mode} role 0 total {total}");
         assert_eq!(listing.lines().next(), Some(first.as_str()));
     }

@@ -1,9 +1,11 @@
-//! The tuned append and listing give what the plain ones give.
+//! The tuned append, listing and sums give what the plain ones give.
 
+use outside::limits;
 use outside::listing;
 use outside::refusal::Refusal;
 use outside::rng::Rng;
 use outside::store::{self, RECORD};
+use outside::sums;
 use outside::tuned::{self, LISTING_ROOM};
 
 /// The numbers of random points.
@@ -26,10 +28,11 @@ fn append(bytes: &mut [u8], numbers: &[i16]) -> Result<(), Refusal> {
     told
 }
 
-/// Lists on both sides.
+/// Lists and sums on both sides.
 fn compare_listings(bytes: &[u8], out: &mut [u8]) {
     let length = tuned::list(bytes, out).unwrap();
     assert!(out[..length] == listing::list(bytes)[..]);
+    assert_eq!(tuned::sums(bytes), sums::sums(bytes));
 }
 
 /// A sound store with points and lost counts, at times near a total of
@@ -140,6 +143,14 @@ fn stores_of_every_size() {
         assert_eq!(made.is_ok(), (2..=2048).contains(&records));
         while append(&mut bytes, &random_points(&mut rng, 501)).is_ok() {}
         while append(&mut bytes, &random_points(&mut rng, 1)).is_ok() {}
+        compare_listings(&bytes, &mut out);
+    }
+}
+
+#[test]
+fn stores_at_the_limits() {
+    let mut out = vec![0; LISTING_ROOM];
+    for (_, bytes) in limits::stores() {
         compare_listings(&bytes, &mut out);
     }
 }

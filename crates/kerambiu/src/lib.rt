@@ -1,6 +1,7 @@
 // The calls for C and Rust, by their exported names. What each does is in the crates that it calls; include/kerambiu.h declares them.
 use listing::Listed;
 use store::Readout;
+use summing::Summed;
 ghost use mathlib.Core.Path.{_≡_};
 ghost use lib.ListN.{length as size};
 ghost use Rattle.line.specs.Point.{at};
@@ -12,6 +13,7 @@ ghost use Rattle.listing.specs.Text.{text, listNumber, listResult};
 ghost use Rattle.bulk.specs.Block.{parts};
 ghost use Rattle.lent_receiver.specs.Receiving.{freshNumber, freshState, callNumber, callState, callAnswer, blockNumber, blockState, blockParts};
 ghost use Rattle.lent_sender.specs.Sending.{openNumber, openState, openOut, sendNumber, sendState, sendOut};
+ghost use Rattle.kerambiu.specs.Summing.{sumsNumber, sumsResult};
 ghost use Rattle.kerambiu.specs.Counted.{countedNumber, countedOut, countedCounts};
 
 // ---- the receiver's calls
@@ -159,6 +161,26 @@ pub extern "C" fn kerambiu_list(store: &[u8], out: &mut [u8], count: &mut [usize
         Listed::Refused(number) => number,
         Listed::Written(bytes) => {
             count[0] = bytes;
+            0
+        }
+    }
+}
+
+// Writes the sums of a store, P, L and G, into the first three of the lent numbers: 0, or the number that refuses it.
+#[no_mangle]
+pub extern "C" fn kerambiu_sums(store: &[u8], sums: &mut [u64]) -> u8
+    ensures { λ r. ⌜ (r ≡ sumsNumber (now (store .entry)) (size (now (sums .entry)))) × (now (sums .exit) ≡ sumsResult (now (store .entry)) (now (sums .entry))) ⌝ }
+{
+    if sums.len() < 3 {
+        return 7;
+    }
+    let summed = listing::sums(store);
+    match summed {
+        Summed::Refused(number) => number,
+        Summed::Sums(v) => {
+            sums[0] = v.points;
+            sums[1] = v.lost;
+            sums[2] = v.gaps;
             0
         }
     }

@@ -21,7 +21,7 @@ fn skip_rest() {
 }
 
 // Puts the listing of the store that the first n bytes of `input` are at the start of `out`; its length.
-fn list_first(input: &[u8], n: usize, out: &mut [u8; 372591]) -> usize
+fn list_first(input: &[u8], n: usize, out: &mut [u8; 372645]) -> usize
     requires { ⌜ Counts n (now input) ⌝ }
     ensures { λ r. ⌜ (r ≡ length (text (take n (now (input .entry))))) × (take r (now (out .exit)) ≡ text (take n (now (input .entry)))) × Counts r (now (out .exit)) ⌝ }
 {
@@ -40,7 +40,7 @@ fn main() {
     if n == 65537 {
         skip_rest();
     }
-    let mut out = [0u8; 372591];
+    let mut out = [0u8; 372645];
     let count = list_first(&input, n, &mut out);
     io::write_all(libc::STDOUT_FILENO, &out[..count]);
 }

@@ -14,9 +14,9 @@ use Rattle.receiver.specs.Receiver.{refusal as eventRefused}
 use Rattle.store.specs.Layout.{recordOk, spanOf, eventsOf}
 use Rattle.store.specs.Layout.{next as nextIn}
 use Rattle.store.specs.Store.{chain, events, total, sizeOk, hasMark, headOk, chainOk, recordsOk, totalOk, refusal}
-use Rattle.listing.specs.Text.{decimal, kindText, lineText, firstLine, chainText, refusedLine, text}
-use Rattle.listing.specs.Example.{FiveLines}
+use Rattle.listing.specs.Text.{decimal, kindText, lineText, numbersLine, chainText, refusedLine, text}
+use Rattle.listing.specs.Example.{SixLines}
 
-pub five-lines : FiveLines
-unfolding entry rowFrom isMode isRole isState states width farTap capacity step quadrant turn quarterSteps face inRange isOrigin inFirst sector outer first turnedAnswer quarters decide changes4 changes8 changes16 eighths turnRow group signed back nearTap push registerOk mix freshReceiver isFresh fieldsOk modeRefusal stateRefusal hasRoom eventRefusal eventRefused stateAnswer pointAnswer eventAnswer answer forgotten stateLine stateNext pointNext eventNext next recordOk spanOf eventsOf nextIn chain events total sizeOk hasMark headOk chainOk recordsOk totalOk refusal decimal kindText lineText firstLine chainText refusedLine text
-five-lines = refl
+pub six-lines : SixLines
+unfolding entry rowFrom isMode isRole isState states width farTap capacity step quadrant turn quarterSteps face inRange isOrigin inFirst sector outer first turnedAnswer quarters decide changes4 changes8 changes16 eighths turnRow group signed back nearTap push registerOk mix freshReceiver isFresh fieldsOk modeRefusal stateRefusal hasRoom eventRefusal eventRefused stateAnswer pointAnswer eventAnswer answer forgotten stateLine stateNext pointNext eventNext next recordOk spanOf eventsOf nextIn chain events total sizeOk hasMark headOk chainOk recordsOk totalOk refusal decimal kindText lineText numbersLine chainText refusedLine text
+six-lines = refl

@@ -23,11 +23,12 @@ use Rattle.receiver.specs.Calls.{EachAccepted}
 use Rattle.receiver.proofs.OutcomeLaws.{in-a-sector, accepted-placed}
 use Rattle.receiver.proofs.CallLaws.{Valid, no-refusal, next-valid}
 use Rattle.store.specs.Chain.{gather, sumOver}
-use Rattle.store.specs.Layout.{Event, point, lost, rec, held, isPoints, pointAt, points, pointsOk, kind, recordOk, spanOf, eventsOf}
+use Rattle.store.specs.Layout.{Event, point, lost, rec, held, isPoints, pointAt, points, pointsOk, kind, recordOk, eventsOf}
+use Rattle.store.specs.Layout.{intervals as intervalsIn}
 use Rattle.store.specs.Store.{chain, events, total, hasMark, headOk, refusal}
-use Rattle.line.specs.Table.{All}
 use Rattle.store.proofs.Records.{total-at}
 use Rattle.store.proofs.Sounds.{accepted-sound}
+use Rattle.store.proofs.Spans.{chain-span}
 use Rattle.listing.specs.Text.{taken, modeIn, roleIn}
 use Rattle.listing.specs.Laws.{NoneRefused}
 use Rattle.listing.proofs.Lines.{points-record}
@@ -37,27 +38,15 @@ abbrev Fine : Event → Type 0
 Fine (point p) = T (inRange p)
 Fine (lost n) = 1 ≤ n
 
-abbrev span : List Event → ℕ
-span [] = 0
-span (e ∷ es) = intervals (taken e) + span es
-
 fine-append : (xs ys : List Event) → All Fine xs → All Fine ys → All Fine (xs ++ ys)
 fine-append [] ys a b = b
 fine-append (e ∷ xs) ys a b = (a .0, fine-append xs ys (a .1) b)
-
-span-append : (xs ys : List Event) → span (xs ++ ys) ≡ span xs + span ys
-span-append [] ys = omega arith
-span-append (e ∷ xs) ys = omega (arith, span-append xs ys)
 
 points-fine : (bs : List ℕ) (n : ℕ) → pointsOk bs n ≡ true → All Fine (points bs n)
 points-fine bs zero e = tt
 points-fine bs (suc n) e =
     let z = and-split (inRange (pointAt bs)) (pointsOk (drop 4 bs) n) e in
     (subst T (sym (z .0)) tt, points-fine (drop 4 bs) n (z .1))
-
-points-span : (bs : List ℕ) (n : ℕ) → span (points bs n) ≡ n
-points-span bs zero = refl
-points-span bs (suc n) = omega (arith, points-span (drop 4 bs) n)
 
 record-fine : (r : List ℕ) → recordOk r ≡ true → All Fine (eventsOf r)
 unfolding recordOk eventsOf
@@ -69,19 +58,10 @@ record-fine r ok = by-test (isPoints r) (λ e. rw e (points-fine (drop 4 r) (hel
         let y = and-split (eqb (kind r) 2 && eqb (held r) 0) (leb 1 (u32 r 4)) (z .0) in
         rw e (leb-true 1 (u32 r 4) (y .1), tt)
 
-record-span : (r : List ℕ) → span (eventsOf r) ≡ spanOf r
-unfolding spanOf eventsOf
-record-span r = by-test (isPoints r) (λ e. rw e (points-span (drop 4 r) (held r))) (λ e. rw e (omega arith))
-
 -- ---- and a chain
 chain-fine : (f : ℕ → List ℕ) (c : List ℕ) → All (λ i. recordOk (f i) ≡ true) c → All Fine (gather (λ i. eventsOf (f i)) c)
 chain-fine f [] a = tt
 chain-fine f (i ∷ c) a = fine-append (eventsOf (f i)) _ (record-fine (f i) (a .0)) (chain-fine f c (a .1))
-
-chain-span : (f : ℕ → List ℕ) (c : List ℕ) → span (gather (λ i. eventsOf (f i)) c) ≡ sumOver (λ i. spanOf (f i)) c
-chain-span f [] = refl
-chain-span f (i ∷ c) =
-    omega (arith, span-append (eventsOf (f i)) (gather (λ j. eventsOf (f j)) c), record-span (f i), chain-span f c)
 
 -- ---- what a receiver refuses
 needs-met : (s : Receiver) (e : Event) → Fine e → s .place .0 + intervals (taken e) ≤ 4294967295 → eventNeeds s (taken e) ≡ 0
@@ -91,13 +71,17 @@ needs-met s (point p) f h =
     (need-intro (inSector (decide (s .mode) p)) 10 _ (in-a-sector (s .mode) p) (need-intro (hasRoom s 1) 16 0 (le→leb _ _ h) refl))
 needs-met s (lost n) f h = need-intro (leb 1 n) 9 _ (le→leb 1 n f) (need-intro (hasRoom s n) 16 0 (le→leb _ _ h) refl)
 
-all-accepted : (es : List Event) (s : Receiver) → Valid s → All Fine es → s .place .0 + span es ≤ 4294967295 → EachAccepted s (map taken es)
+taken-span : (e : Event) → intervals (taken e) ≡ intervalsIn e
+taken-span (point p) = refl
+taken-span (lost n) = refl
+
+all-accepted : (es : List Event) (s : Receiver) → Valid s → All Fine es → s .place .0 + sumOver intervalsIn es ≤ 4294967295 → EachAccepted s (map taken es)
 unfolding eventRefused
 all-accepted [] s v f h = tt
 all-accepted (e ∷ es) s v f h =
-    let n : eventNeeds s (taken e) ≡ 0 = needs-met s e (f .0) (omega arith) in
+    let n : eventNeeds s (taken e) ≡ 0 = needs-met s e (f .0) (omega (arith, taken-span e)) in
     let a : eventRefused s (taken e) ≡ 0 = ap (λ (k : ℕ). orNext k (eventNeeds s (taken e))) (no-refusal s v) ∙ n in
-    (a, all-accepted es (next s (taken e)) (next-valid s v (taken e)) (f .1) (omega (arith, accepted-placed s (taken e) a)))
+    (a, all-accepted es (next s (taken e)) (next-valid s v (taken e)) (f .1) (omega (arith, taken-span e, accepted-placed s (taken e) a)))
 
 -- ---- an accepted store
 pub head-parts : (r : List ℕ) → headOk r ≡ true → (isMode (getD r 4 0) ≡ true) × (isRole (getD r 4 0) (getD r 5 0) ≡ true)

@@ -30,9 +30,11 @@ use Rattle.store.specs.Layout.{count, rec, held, isPoints, pointAt, points, rec
 use Rattle.store.specs.Layout.{next as nextIn}
 use Rattle.store.specs.Store.{chain, events, total, headOk, refusal}
 use Rattle.line.specs.Table.{All}
+use Rattle.summing.specs.declared.EventSums.{EventSums}
+use Rattle.summing.specs.Sums.{sumsOf}
 use Rattle.store.proofs.Chains.{run-short}
 use Rattle.store.proofs.Sounds.{accepted-sound}
-use Rattle.listing.specs.Text.{decimal, glyphs, lineGlyphs, bitsAre, blank, kindText, lineText, taken, lines, firstLine, chainText, refusedLine, modeIn, roleIn, text, longest}
+use Rattle.listing.specs.Text.{decimal, glyphs, lineGlyphs, bitsAre, blank, kindText, lineText, taken, lines, numbersLine, firstLine, sumLine, chainText, refusedLine, modeIn, roleIn, text, longest}
 use Rattle.listing.specs.Laws.{NoneLonger}
 use Rattle.listing.proofs.Digits.{decimal-long, decimal-one}
 use Rattle.listing.proofs.Lines.{lines-append, points-record}
@@ -116,8 +118,12 @@ chain-long f (i ∷ c) s a =
 
 -- ---- the text
 first-long : (m role t : ℕ) → m < 10 → role < 10 → length (firstLine m role t) ≤ 37
-unfolding firstLine
+unfolding numbersLine
 first-long m role t h k = simp length-append (omega (arith, decimal-one m h, decimal-one role k, decimal-long t))
+
+sums-long : (v : EventSums) → length (sumLine v) ≤ 54
+unfolding numbersLine
+sums-long v = simp length-append (omega (arith, decimal-long (v .points), decimal-long (v .lost), decimal-long (v .gaps)))
 
 head-small : (r : List ℕ) → headOk r ≡ true → (getD r 4 0 < 10) × (getD r 5 0 < 10)
 unfolding isMode isRole
@@ -135,12 +141,15 @@ track-long s acc =
     let h = head-small (rec s 0) (o .head) in
     let c : List ℕ = chain s in
     let l : length c < count s = run-short (nextIn s) (count s) (nextIn s 0) c (omega (arith, o .least)) (o .run) (o .within) in
-    let f : Receiver = freshReceiver (modeIn s) (roleIn s) in
+    let ls : List ℕ = lines (freshReceiver (modeIn s) (roleIn s)) (map taken (events s)) in
+    let v : EventSums = sumsOf (events s) in
     omega (
       arith,
-      length-append (firstLine (modeIn s) (roleIn s) (total s)) (lines f (map taken (events s))),
+      length-append (firstLine (modeIn s) (roleIn s) (total s)) (ls ++ sumLine v),
+      length-append ls (sumLine v),
+      sums-long v,
       first-long (modeIn s) (roleIn s) (total s) (h .0) (h .1),
-      chain-long (rec s) c f (o .records),
+      chain-long (rec s) c (freshReceiver (modeIn s) (roleIn s)) (o .records),
       o .most,
     )
 

@@ -137,11 +137,3 @@ module _ (s out₀ out : List ℕ) (p₀ : ℕ) (t₀ : Receiver) (p : Progress)
               (ap (lines (p .state)) now-here ∙ lines-append (p .state) here later ∙ ap (λ (t : Receiver). lines (p .state) here ++ lines t later) (sym (w .state)))
               (w .wrote);
         })
-
--- the links, as the code reads them
-pub next-first : (s : List ℕ) → u16 s 6 ≡ nextIn s 0
-next-first s = sym (next-at s 0)
-
-pub next-later : (s : List ℕ) (i : ℕ) → (i ≡ 0 → ⊥) → u16 s (32 * i) ≡ nextIn s i
-next-later s i nz =
-    ap (u16 s) (let e : 32 * i ≡ 32 * i + linkIn i = omega (arith, link-later i nz) in e) ∙ sym (next-at s i)

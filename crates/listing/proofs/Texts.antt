@@ -13,9 +13,13 @@ use Rattle.line.specs.Refusal.{accepted}
 use Rattle.receiver.specs.declared.Receiver.{Receiver}
 use Rattle.receiver.specs.Receiver.{freshReceiver}
 use Rattle.receiver.specs.Calls.{EachAccepted}
+use Rattle.octets.specs.Number.{u32}
+use Rattle.store.specs.Layout.{totalAt}
 use Rattle.store.specs.Store.{events, total, sizeOk, refusal}
-use Rattle.store.proofs.Records.{rec-byte}
-use Rattle.listing.specs.Text.{taken, lines, firstLine, chainText, refusedLine, modeIn, roleIn, text, longest, listNumber, listCounts, listResult}
+use Rattle.store.proofs.Records.{rec-byte, total-at}
+use Rattle.summing.specs.declared.EventSums.{EventSums}
+use Rattle.summing.specs.Sums.{sumsOf}
+use Rattle.listing.specs.Text.{taken, lines, firstLine, sumLine, chainText, refusedLine, modeIn, roleIn, text, longest, listNumber, listCounts, listResult}
 use Rattle.listing.specs.Laws.{TooLong}
 use Rattle.listing.specs.Wrote.{Wrote}
 use Rattle.listing.proofs.Writes.{wrote-then, wrote-as}
@@ -26,26 +30,38 @@ accepted-text : (s : List ℕ) → refusal s ≡ 0 → text s ≡ chainText (mod
 unfolding text
 accepted-text s e = rw e
 
-module _ (s : List ℕ) (m role t : ℕ) (f : Receiver) (acc : refusal s ≡ 0) (em : m ≡ getD s 4 0) (er : role ≡ getD s 5 0) (et : t ≡ total s) (ef : f ≡ freshReceiver m role) where
+module _ (s : List ℕ) (m role t : ℕ) (f : Receiver) (acc : refusal s ≡ 0) (em : m ≡ getD s 4 0) (er : role ≡ getD s 5 0) (et : t ≡ u32 s totalAt) (ef : f ≡ freshReceiver m role) where
   mode-is : m ≡ modeIn s
   mode-is = em ∙ sym (rec-byte s 0 4 (omega arith))
 
   role-is : role ≡ roleIn s
   role-is = er ∙ sym (rec-byte s 0 5 (omega arith))
 
-  track-text : firstLine m role t ++ lines f (map taken (events s)) ≡ text s
+  total-is : t ≡ total s
+  total-is = et ∙ sym (total-at s)
+
+  track-text : firstLine m role t ++ (lines f (map taken (events s)) ++ sumLine (sumsOf (events s))) ≡ text s
   unfolding chainText
-  track-text = rw (ef, mode-is, role-is, et) (sym (accepted-text s acc))
+  track-text = rw (ef, mode-is, role-is, total-is) (sym (accepted-text s acc))
 
   pub track-free : t ≤ 4294967295 → EachAccepted f (map taken (events s))
-  track-free h = rw (ef, mode-is, role-is) (heard-whole s acc (omega arith))
+  track-free h = rw (ef, mode-is, role-is) (heard-whole s acc (omega (arith, total-is)))
 
   pub track-room : (p : ℕ) → p ≡ 0 + length (firstLine m role t) → p + length (lines f (map taken (events s))) ≤ 500000
   track-room p e =
-      omega (arith, length-append (firstLine m role t) (lines f (map taken (events s))), ap length track-text, ap length (accepted-text s acc), track-long s acc)
+      let ls : List ℕ = lines f (map taken (events s)) in
+      omega (
+        arith,
+        length-append (firstLine m role t) (ls ++ sumLine (sumsOf (events s))),
+        length-append ls (sumLine (sumsOf (events s))),
+        ap length track-text,
+        ap length (accepted-text s acc),
+        track-long s acc,
+      )
 
-  pub track-wrote : {o o₁ o′ : List ℕ} {p q : ℕ} → Wrote o 0 (firstLine m role t) o₁ p → Wrote o₁ p (lines f (map taken (events s))) o′ q → Wrote o 0 (text s) o′ q
-  track-wrote a b = wrote-as track-text (wrote-then a b)
+  pub track-wrote : {o o₁ o₂ o′ : List ℕ} {p q r : ℕ} (v : EventSums) → v ≡ sumsOf (events s) → Wrote o 0 (firstLine m role t) o₁ p
+      → Wrote o₁ p (lines f (map taken (events s))) o₂ q → Wrote o₂ q (sumLine v) o′ r → Wrote o 0 (text s) o′ r
+  track-wrote v ev a b c = wrote-as track-text (wrote-then a (wrote-then b (wrote-as (ap sumLine ev) c)))
 
 -- ---- the call
 module _ (s out : List ℕ) where

@@ -1,4 +1,4 @@
--- Document 01, "Listing program": its example, from the store's bytes to the five lines.
+-- Document 01, "Listing program", and R-2: its example, from the store's bytes to the six lines.
 use mathlib.Core.Path.{_≡_}
 use mathlib.Core.List.{List, [], _∷_, _++_}
 use Prim.Native.Nat.{ℕ}
@@ -13,7 +13,7 @@ store =
     ++ (3 ∷ 0 ∷ 2 ∷ 0 ∷ 3 ∷ replicate 27 0)
     ++ (0 ∷ 0 ∷ 1 ∷ 1 ∷ 0 ∷ 240 ∷ replicate 26 0)
 
--- "track mode 1 role 0 total 6", "0 ref", "1 bits 01 --", "2 lost 3", "5 ref"
+-- "track mode 1 role 0 total 6", "0 ref", "1 bits 01 --", "2 lost 3", "5 ref", "sum points 3 lost 3 gaps 1"
 abbrev pub listed : List ℕ
 listed =
     (116 ∷ 114 ∷ 97 ∷ 99 ∷ 107 ∷ 32 ∷ 109 ∷ 111 ∷ 100 ∷ 101 ∷ 32 ∷ 49 ∷ 32 ∷ 114 ∷ 111 ∷ 108 ∷ 101 ∷ 32 ∷ 48 ∷ 32 ∷ 116 ∷ 111 ∷ 116 ∷ 97 ∷ 108 ∷ 32 ∷ 54 ∷ 10 ∷ [])
@@ -21,6 +21,7 @@ listed =
     ++ (49 ∷ 32 ∷ 98 ∷ 105 ∷ 116 ∷ 115 ∷ 32 ∷ 48 ∷ 49 ∷ 32 ∷ 45 ∷ 45 ∷ 10 ∷ [])
     ++ (50 ∷ 32 ∷ 108 ∷ 111 ∷ 115 ∷ 116 ∷ 32 ∷ 51 ∷ 10 ∷ [])
     ++ (53 ∷ 32 ∷ 114 ∷ 101 ∷ 102 ∷ 10 ∷ [])
+    ++ (115 ∷ 117 ∷ 109 ∷ 32 ∷ 112 ∷ 111 ∷ 105 ∷ 110 ∷ 116 ∷ 115 ∷ 32 ∷ 51 ∷ 32 ∷ 108 ∷ 111 ∷ 115 ∷ 116 ∷ 32 ∷ 51 ∷ 32 ∷ 103 ∷ 97 ∷ 112 ∷ 115 ∷ 32 ∷ 49 ∷ 10 ∷ [])
 
-abbrev pub FiveLines : Type 0
-FiveLines = text store ≡ listed
+abbrev pub SixLines : Type 0
+SixLines = text store ≡ listed

@@ -1,4 +1,4 @@
--- Document 01, "Listing program": the bytes of a store's listing, in ASCII.
+-- Document 01, "Listing program", and document 02, R-2: the bytes of a store's listing, in ASCII.
 use mathlib.Core.Bool.{cond}
 use mathlib.Core.List.{List, [], _∷_, _++_, map}
 use Prim.Native.Nat.{ℕ, zero, suc, _+_, _/_, _%_}
@@ -14,6 +14,8 @@ use Rattle.receiver.specs.Receiver.{point as pointCall}
 use Rattle.store.specs.Layout.{Event, point, rec}
 use Rattle.store.specs.Layout.{lost as lostFor}
 use Rattle.store.specs.Store.{events, total, refusal}
+use Rattle.summing.specs.declared.EventSums.{EventSums}
+use Rattle.summing.specs.Sums.{sumsOf}
 use Rattle.listing.specs.declared.Listed.{Listed}
 use Rattle.listing.specs.declared.Listed.the-variants.{Refused, Written}
 
@@ -28,7 +30,7 @@ digits (suc k) n = cond (ltb n 10) ((48 + n) ∷ []) (digits k (n / 10) ++ ((48 
 unfoldable pub decimal : ℕ → List ℕ
 decimal n = digits 10 n
 
--- "track mode ", " role ", " total ", " ref", " bits ", " lost ", "refused "
+-- "track mode ", " role ", " total ", " ref", " bits ", " lost ", "sum points ", " gaps ", "refused "
 abbrev pub trackMode : List ℕ
 trackMode = 116 ∷ 114 ∷ 97 ∷ 99 ∷ 107 ∷ 32 ∷ 109 ∷ 111 ∷ 100 ∷ 101 ∷ 32 ∷ []
 
@@ -46,6 +48,12 @@ bitsAre = 32 ∷ 98 ∷ 105 ∷ 116 ∷ 115 ∷ 32 ∷ []
 
 abbrev pub lostAre : List ℕ
 lostAre = 32 ∷ 108 ∷ 111 ∷ 115 ∷ 116 ∷ 32 ∷ []
+
+abbrev pub sumPoints : List ℕ
+sumPoints = 115 ∷ 117 ∷ 109 ∷ 32 ∷ 112 ∷ 111 ∷ 105 ∷ 110 ∷ 116 ∷ 115 ∷ 32 ∷ []
+
+abbrev pub itsGaps : List ℕ
+itsGaps = 32 ∷ 103 ∷ 97 ∷ 112 ∷ 115 ∷ 32 ∷ []
 
 abbrev pub refusedBy : List ℕ
 refusedBy = 114 ∷ 101 ∷ 102 ∷ 117 ∷ 115 ∷ 101 ∷ 100 ∷ 32 ∷ []
@@ -93,13 +101,21 @@ lines s (e ∷ es) = lineText (s .place .0) (answer s e) ++ lines (next s e) es
 
 -- THE LISTING
 
--- mode, role, total
-unfoldable pub firstLine : ℕ → ℕ → ℕ → List ℕ
-firstLine m role t = trackMode ++ (decimal m ++ (itsRole ++ (decimal role ++ (itsTotal ++ (decimal t ++ lineEnd)))))
+-- a line of three numbers, each after its words
+unfoldable pub numbersLine : List ℕ → ℕ → List ℕ → ℕ → List ℕ → ℕ → List ℕ
+numbersLine a x b y c z = a ++ (decimal x ++ (b ++ (decimal y ++ (c ++ (decimal z ++ lineEnd)))))
 
--- a chain's listing: its first line, and the events as a fresh receiver hears them
+-- mode, role, total
+abbrev pub firstLine : ℕ → ℕ → ℕ → List ℕ
+firstLine m role t = numbersLine trackMode m itsRole role itsTotal t
+
+-- R-2: `sum points P lost L gaps G`
+abbrev pub sumLine : EventSums → List ℕ
+sumLine v = numbersLine sumPoints (v .points) lostAre (v .lost) itsGaps (v .gaps)
+
+-- a chain's listing: its first line, the events as a fresh receiver hears them, and their sums
 unfoldable pub chainText : ℕ → ℕ → ℕ → List Event → List ℕ
-chainText m role t es = firstLine m role t ++ lines (freshReceiver m role) (map taken es)
+chainText m role t es = firstLine m role t ++ (lines (freshReceiver m role) (map taken es) ++ sumLine (sumsOf es))
 
 unfoldable pub refusedLine : ℕ → List ℕ
 refusedLine n = refusedBy ++ (decimal n ++ lineEnd)
@@ -110,15 +126,15 @@ modeIn s = getD (rec s 0) 4 0
 abbrev pub roleIn : List ℕ → ℕ
 roleIn s = getD (rec s 0) 5 0
 
--- "a refused store prints one line and nothing else"
+-- "A refused store prints one line and nothing else": no sum either
 unfoldable pub text : List ℕ → List ℕ
 text s = accepted (refusal s) (chainText (modeIn s) (roleIn s) (total s) (events s)) (refusedLine (refusal s))
 
--- a buffer that holds any listing: 37 bytes for the first line and 26 for each of seven lines of 2,047 records (`NoneLonger` of
--- specs/Laws). The lent bytes are judged by it and not by the text's own length, which is known only when the receiver has taken
+-- a buffer that holds any listing: 37 bytes for the first line, 26 for each of seven lines of 2,047 records and 54 for the sums
+-- (`NoneLonger` of specs/Laws). The lent bytes are judged by it and not by the text's own length, which is known only when the receiver has taken
 -- every event, and it would have to take them again to write; and so a caller knows before the call what to lend.
 abbrev pub longest : ℕ
-longest = 372591
+longest = 372645
 
 -- 7: too few lent bytes
 unfoldable pub listNumber : ℕ → ℕ

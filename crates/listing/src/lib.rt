@@ -1,4 +1,4 @@
-// The listing of a track store, as text into lent bytes. Document 01, "Listing program".
+// The listing of a track store, as text into lent bytes. Document 01, "Listing program"; document 02, R-2.
 use bulk::Block;
 use octets::get_i16;
 use octets::get8;
@@ -11,7 +11,9 @@ use receiver::Outcome;
 use receiver::Receiver;
 use receiver::Reference;
 use receiver::receive_gap;
-use store::Inspected;
+use summing::EventSums;
+use summing::Summed;
+pub use summing::sums;
 ghost use mathlib.Core.Path.{_≡_};
 ghost use mathlib.Core.Bool.{true, cond};
 ghost use mathlib.Core.List.{map};
@@ -23,12 +25,13 @@ ghost use Rattle.scrambler.specs.Group.{marked};
 ghost use Rattle.receiver.specs.Receiver.{freshReceiver, lost};
 ghost use Rattle.receiver.specs.Calls.{EachAccepted};
 ghost use Rattle.store.specs.Layout.{rec, points, recordOk, eventsOf};
-ghost use Rattle.store.specs.Store.{events, total, refusal};
-ghost use Rattle.listing.specs.Text.{decimal, glyphs, lineText, taken, lines, firstLine, refusedLine, text, listNumber, listCounts, listResult, numberOf, countsOf};
+ghost use Rattle.store.specs.Store.{events, refusal};
+ghost use Rattle.summing.specs.Sums.{sumsOf, Small};
+ghost use Rattle.listing.specs.Text.{decimal, glyphs, lineText, taken, lines, numbersLine, firstLine, sumLine, refusedLine, text, listNumber, listCounts, listResult, numberOf, countsOf};
 ghost use Rattle.listing.specs.Wrote.{Wrote, Went, byteAnswer, byteLines, numbersIn};
 
 // Bytes enough for the listing of any store.
-pub const LONGEST: usize = 372591;
+pub const LONGEST: usize = 372645;
 
 // ---- numbers and words
 
@@ -229,17 +232,60 @@ fn put_chain(s: &[u8], out: &mut [u8], at: usize, state: Receiver) -> usize
 
 // ---- the listing
 
+// A line of three numbers, each after its words; the place behind it.
+fn put_numbers(
+    out: &mut [u8],
+    at: usize,
+    a: &[u8],
+    x: u32,
+    b: &[u8],
+    y: u32,
+    c: &[u8],
+    z: u32,
+) -> usize
+    requires { ⌜ (at ≤ 500000) × (length (now a) ≤ 100) × (length (now b) ≤ 100) × (length (now c) ≤ 100) ⌝ }
+    ensures { λ r. ⌜ Wrote (now (out .entry)) at (numbersLine (now (a .entry)) x (now (b .entry)) y (now (c .entry)) z) (now (out .exit)) r ⌝ }
+{
+    let p = put_text(out, at, a);
+    let p = put_decimal(out, p, x);
+    let p = put_text(out, p, b);
+    let p = put_decimal(out, p, y);
+    let p = put_text(out, p, c);
+    let p = put_decimal(out, p, z);
+    put_text(out, p, b"\n")
+}
+
 // Mode, role and total; the place behind them.
 fn put_first(out: &mut [u8], mode: u8, role: u8, total: u32) -> usize
     ensures { λ r. ⌜ Wrote (now (out .entry)) 0 (firstLine mode role total) (now (out .exit)) r ⌝ }
 {
-    let a = put_text(out, 0, b"track mode ");
-    let b = put_decimal(out, a, mode as u32);
-    let c = put_text(out, b, b" role ");
-    let d = put_decimal(out, c, role as u32);
-    let e = put_text(out, d, b" total ");
-    let f = put_decimal(out, e, total);
-    put_text(out, f, b"\n")
+    put_numbers(
+        out,
+        0,
+        b"track mode ",
+        mode as u32,
+        b" role ",
+        role as u32,
+        b" total ",
+        total,
+    )
+}
+
+// The line of the sums; the place behind it.
+fn put_sums(out: &mut [u8], at: usize, v: EventSums) -> usize
+    requires { ⌜ (at ≤ 500000) × Small v ⌝ }
+    ensures { λ r. ⌜ Wrote (now (out .entry)) at (sumLine v) (now (out .exit)) r ⌝ }
+{
+    put_numbers(
+        out,
+        at,
+        b"sum points ",
+        v.points as u32,
+        b" lost ",
+        v.lost as u32,
+        b" gaps ",
+        v.gaps as u32,
+    )
 }
 
 // A receiver that has taken nothing, of a mode and role that an accepted store has: what `receiver::fresh` refuses is ruled out.
@@ -255,15 +301,16 @@ fn fresh_state(mode: u8, role: u8) -> Receiver
     }
 }
 
-// The listing of an accepted store; its length.
-fn put_track(s: &[u8], out: &mut [u8], sum: u32) -> usize
-    requires { ⌜ (refusal (now s) ≡ 0) × (sum ≡ total (now s)) ⌝ }
+// The listing of an accepted store, whose sums are v; its length.
+fn put_track(s: &[u8], out: &mut [u8], v: EventSums) -> usize
+    requires { ⌜ (refusal (now s) ≡ 0) × (v ≡ sumsOf (events (now s))) × Small v ⌝ }
     ensures { λ r. ⌜ Wrote (now (out .entry)) 0 (text (now (s .entry))) (now (out .exit)) r ⌝ }
 {
     let mode = get8(s, 4) as u8;
     let role = get8(s, 5) as u8;
-    let at = put_first(out, mode, role, sum);
-    put_chain(s, out, at, fresh_state(mode, role))
+    let at = put_first(out, mode, role, get32(s, 8) as u32);
+    let end = put_chain(s, out, at, fresh_state(mode, role));
+    put_sums(out, end, v)
 }
 
 // The one line of a refused store; its length.
@@ -288,8 +335,8 @@ pub fn list(store: &[u8], out: &mut [u8]) -> Listed
     if out.len() < LONGEST {
         return Listed::Refused(7);
     }
-    match store::inspect(store) {
-        Inspected::Refused(number) => Listed::Written(put_refused(out, number)),
-        Inspected::Accepted(v) => Listed::Written(put_track(store, out, v.total as u32)),
+    match sums(store) {
+        Summed::Refused(number) => Listed::Written(put_refused(out, number)),
+        Summed::Sums(v) => Listed::Written(put_track(store, out, v)),
     }
 }

@@ -251,9 +251,12 @@ pub sum-same : (g g′ : ℕ → ℕ) (c : List ℕ) → All (λ x. g′ x ≡ g
 sum-same g g′ [] a = refl
 sum-same g g′ (x ∷ xs) a = omega (arith, sum-same g g′ xs (a .1), a .0)
 
+pub sum-append : {A : Type 0} (g : A → ℕ) (xs ys : List A) → sumOver g (xs ++ ys) ≡ sumOver g xs + sumOver g ys
+sum-append g [] ys = omega arith
+sum-append g (x ∷ xs) ys = omega (arith, sum-append g xs ys)
+
 pub sum-snoc : (g : ℕ → ℕ) (c : List ℕ) (j : ℕ) → sumOver g (c ++ (j ∷ [])) ≡ sumOver g c + g j
-sum-snoc g [] j = omega arith
-sum-snoc g (x ∷ xs) j = omega (arith, sum-snoc g xs j)
+sum-snoc g c j = omega (arith, sum-append g c (j ∷ []))
 
 pub below-greatest : (c : List ℕ) → All (λ x. x ≤ greatest c) c
 below-greatest [] = tt

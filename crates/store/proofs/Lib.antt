@@ -5,3 +5,4 @@ pub mod PointRuns
 pub mod Going
 pub mod Views
 pub mod Readings
+pub mod Spans

@@ -1,5 +1,5 @@
 -- Records: a write into record i is a write into that record's bytes, and leaves the others alone. Assumes nothing.
-use mathlib.Core.Path.{_≡_, refl, ap, _∙_}
+use mathlib.Core.Path.{_≡_, refl, sym, ap, _∙_}
 use mathlib.Core.Logic.{_≢_, ⊎-elim, inl}
 use mathlib.Core.List.{List}
 use Prim.Native.Nat.{ℕ, zero, suc, _+_, _*_, _-_, _≤_, _<_}
@@ -56,6 +56,13 @@ link-later (suc i) h = refl
 pub next-at : (s : List ℕ) (i : ℕ) → next s i ≡ u16 s (32 * i + linkIn i)
 unfolding next
 next-at s i = rec-u16 s i (linkIn i) (omega (arith, link-small i))
+
+-- the links, as code that knows which record it is at reads them
+pub next-first : (s : List ℕ) → u16 s 6 ≡ next s 0
+next-first s = sym (next-at s 0)
+
+pub next-later : (s : List ℕ) (i : ℕ) → (i ≡ 0 → ⊥) → u16 s (32 * i) ≡ next s i
+next-later s i nz = ap (u16 s) (let e : 32 * i ≡ 32 * i + linkIn i = omega (arith, link-later i nz) in e) ∙ sym (next-at s i)
 
 pub next-other : (s : List ℕ) (i k o : ℕ) (vs : List ℕ) → o + length vs ≤ 32 → k ≢ i → next (write s i o vs) k ≡ next s k
 unfolding next

@@ -26,10 +26,10 @@ abbrev pub distinct : List ℕ → Bool
 distinct [] = true
 distinct (i ∷ c) = every (λ j. not (eqb i j)) c && distinct c
 
--- the sum of a number for each index of a chain
-abbrev pub sumOver : (ℕ → ℕ) → List ℕ → ℕ
+-- the sum of a number for each member of a list, such as an index of a chain
+abbrev pub sumOver : {A : Type 0} → (A → ℕ) → List A → ℕ
 sumOver f [] = 0
-sumOver f (i ∷ c) = f i + sumOver f c
+sumOver f (x ∷ xs) = f x + sumOver f xs
 
 -- the lists of a chain's indexes, one after the other
 abbrev pub gather : {A : Type 0} → (ℕ → List A) → List ℕ → List A

@@ -40,6 +40,11 @@ pub data Event : Type 0 where
   point : Point → Event
   lost : ℕ → Event
 
+-- an event's intervals
+abbrev pub intervals : Event → ℕ
+intervals (point p) = 1
+intervals (lost n) = n
+
 -- kind (byte 2), count (byte 3)
 abbrev pub kind : List ℕ → ℕ
 kind r = getD r 2 0

@@ -2,21 +2,21 @@
 use mathlib.Core.Path.{_≡_, refl, sym, ap, _∙_, subst}
 use mathlib.Core.Bool.{true}
 use mathlib.Core.List.{List, [], _∷_, _++_, append-assoc, append-nil}
-use Prim.Native.Nat.{ℕ, zero, suc, _+_, _*_}
+use Prim.Native.Nat.{ℕ, _+_, _*_}
 use native.Mathlib.Omega.{arith}
 use borrow.Author.Tests.{eqb-true, eqb-false, le-leb}
 use lib.Dec.{eqb, leb}
-use lib.ListN.{length, drop}
+use lib.ListN.{length}
 use Rattle.line.proofs.Tests.{by-test}
 use Rattle.line.proofs.RefusalLaws.{left-kept}
-use Rattle.store.specs.Chain.{sumOver, gather}
-use Rattle.store.specs.Layout.{Event, point, lost, rec, held, isPoints, points, spanOf, eventsOf}
+use Rattle.store.specs.Layout.{Event, point, lost, intervals, rec}
 use Rattle.store.specs.Reads.{readNumber, readCount, readResult}
 use Rattle.store.proofs.Sounds.{accepted-sound}
+use Rattle.store.proofs.Spans.{chain-span}
 use Rattle.store.specs.Store.{chain, events, refusal}
 use Rattle.track.specs.Append.{makeResult}
 use Rattle.track.proofs.Makes.{make-law}
-use Rattle.track.specs.Calls.{callNumber, callResult, intervals, intervalsOf, after, taken, Holds, AppendsRead, MadeEmpty, MadeRead, TotalGrows, TotalSums}
+use Rattle.track.specs.Calls.{callNumber, callResult, after, taken, Holds, AppendsRead, MadeEmpty, MadeRead, TotalGrows, TotalSums}
 use Rattle.track.proofs.Appends.{Appended, lost-law}
 use Rattle.track.proofs.Answers.{lost-free, lost-done, lost-kept, point-done, point-kept}
 use Rattle.track.proofs.Places.{point-appended}
@@ -83,23 +83,6 @@ made-read s mode role es e =
 pub total-grows : TotalGrows
 total-grows s e z = append-law s e z .total-is
 
-intervals-append : (xs ys : List Event) → intervalsOf (xs ++ ys) ≡ intervalsOf xs + intervalsOf ys
-intervals-append [] ys = omega arith
-intervals-append (x ∷ xs) ys = omega (arith, intervals-append xs ys)
-
-intervals-points : (bs : List ℕ) (n : ℕ) → intervalsOf (points bs n) ≡ n
-intervals-points bs zero = refl
-intervals-points bs (suc n) = omega (arith, intervals-points (drop 4 bs) n)
-
-span-events : (r : List ℕ) → spanOf r ≡ intervalsOf (eventsOf r)
-unfolding spanOf eventsOf
-span-events r = by-test (isPoints r) (λ t. rw t (sym (intervals-points (drop 4 r) (held r)))) (λ t. rw t (omega arith))
-
-sum-events : (s c : List ℕ) → sumOver (λ i. spanOf (rec s i)) c ≡ intervalsOf (gather (λ i. eventsOf (rec s i)) c)
-sum-events s [] = refl
-sum-events s (i ∷ c) =
-    omega (arith, sum-events s c, span-events (rec s i), intervals-append (eventsOf (rec s i)) (gather (λ i. eventsOf (rec s i)) c))
-
 pub total-sums : TotalSums
 unfolding events
-total-sums s acc = accepted-sound s acc .sum ∙ sum-events s (chain s)
+total-sums s acc = accepted-sound s acc .sum ∙ sym (chain-span (rec s) (chain s))

@@ -6,7 +6,8 @@ use lib.IntN.{ℤ}
 use lib.ListN.{length}
 use lib.Seq.{sets}
 use Rattle.line.specs.Refusal.{accepted}
-use Rattle.store.specs.Layout.{Event, point, lost}
+use Rattle.store.specs.Chain.{sumOver}
+use Rattle.store.specs.Layout.{Event, point, lost, intervals}
 use Rattle.store.specs.Store.{events, total, refusal}
 use Rattle.store.specs.Reads.{numbers, readNumber, readCount, readResult}
 use Rattle.track.specs.Append.{makeNumber, makeResult, pointNumber, pointResult, lostNumber, lostResult}
@@ -20,15 +21,9 @@ abbrev pub callResult : List ℕ → Event → List ℕ
 callResult s (point p) = pointResult s p
 callResult s (lost n) = lostResult s n
 
--- an event's intervals
-abbrev pub intervals : Event → ℕ
-intervals (point p) = 1
-intervals (lost n) = n
-
 -- points plus lost intervals
 abbrev pub intervalsOf : List Event → ℕ
-intervalsOf [] = 0
-intervalsOf (e ∷ es) = intervals e + intervalsOf es
+intervalsOf es = sumOver intervals es
 
 -- the store after a list of appends, and the events of those that were accepted
 abbrev pub after : List ℕ → List Event → List ℕ

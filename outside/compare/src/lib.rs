@@ -13,5 +13,6 @@ pub mod sending;
 pub mod signal;
 pub mod stores;
 pub mod storing;
+pub mod summing;
 pub mod tally;
 pub mod timing;

@@ -1,5 +1,6 @@
-//! Listings, byte by byte: of sound stores and of damaged ones.
+//! Listings, byte by byte: of sound stores, damaged ones and those at the limits.
 
+use outside::limits;
 use outside::listing;
 use outside::rng::Rng;
 use outside::tuned;
@@ -11,6 +12,17 @@ use crate::{ours, stores};
 /// Bytes beyond the text, to show what a call leaves.
 const UNWRITTEN: u8 = 0xa5;
 const SEED: u64 = 5;
+
+/// What the library's sums make of a listing's last line.
+fn last_line(store: &[u8]) -> String {
+    let mut sums = [0; 3];
+    let number = ours::sums(store, &mut sums);
+    let [points, lost, gaps] = sums;
+    match number {
+        0 => format!("sum points {points} lost {lost} gaps {gaps}\n"),
+        _ => format!("refused {number}\n"),
+    }
+}
 
 /// Lists a store on all sides.
 fn run(tally: &mut Tally, store: &[u8], out: &mut [u8], tuned_out: &mut [u8]) {
@@ -27,6 +39,10 @@ fn run(tally: &mut Tally, store: &[u8], out: &mut [u8], tuned_out: &mut [u8]) {
             store.len(),
             count[0]
         )
+    });
+    let last = text.split_inclusive(|&byte| byte == b'\n').next_back();
+    tally.check(last == Some(last_line(store).as_bytes()), || {
+        format!("listing of {} bytes: last line", store.len())
     });
     let length = tuned::list(store, tuned_out).unwrap_or(0);
     tally.check(tuned_out[..length] == right, || {
@@ -59,7 +75,7 @@ pub fn compare(count: u64) -> bool {
     for k in 0..count {
         let mut store = stores::sound(&mut rng);
         if k % 4 == 0 {
-            for &fault in &one_or_two(&mut rng, &[11, 12, 13, 14, 15]) {
+            for &fault in &one_or_two(&mut rng, &stores::DAMAGES) {
                 stores::damage(&mut rng, &mut store, fault);
             }
         }
@@ -67,6 +83,9 @@ pub fn compare(count: u64) -> bool {
     }
     for size in [0, 1, 31, 32, 33, 64, 65_536, 65_537, 70_000] {
         run(&mut tally, &vec![0; size], &mut out, &mut tuned_out);
+    }
+    for (_, store) in limits::stores() {
+        run(&mut tally, &store, &mut out, &mut tuned_out);
     }
     run_short(&mut tally, &mut rng, &mut out);
     println!("listing: {count} random stores, seed {SEED}");

@@ -2,7 +2,7 @@
 //! number that refuses the call.
 
 /// The lent bytes that a listing takes (KERAMBIU_LISTING_BYTES).
-pub const LISTING_BYTES: usize = 372_591;
+pub const LISTING_BYTES: usize = 372_645;
 
 mod c {
     #[link(name = "kerambiu", kind = "static")]
@@ -79,6 +79,12 @@ mod c {
             out_len: usize,
             count: *mut usize,
             count_len: usize,
+        ) -> u8;
+        pub fn kerambiu_sums(
+            store: *const u8,
+            store_len: usize,
+            sums: *mut u64,
+            sums_len: usize,
         ) -> u8;
     }
 }
@@ -185,4 +191,10 @@ pub fn list(store: &[u8], out: &mut [u8], count: &mut [usize]) -> u8 {
     let (at, len) = (out.as_mut_ptr(), out.len());
     let (counts, counts_len) = (count.as_mut_ptr(), count.len());
     unsafe { c::kerambiu_list(store.as_ptr(), store.len(), at, len, counts, counts_len) }
+}
+
+/// Decided points, lost intervals and gaps, in the first three numbers.
+pub fn sums(store: &[u8], sums: &mut [u64]) -> u8 {
+    let (at, len) = (sums.as_mut_ptr(), sums.len());
+    unsafe { c::kerambiu_sums(store.as_ptr(), store.len(), at, len) }
 }

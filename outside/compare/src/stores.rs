@@ -44,7 +44,16 @@ pub fn chain(store: &[u8]) -> Vec<usize> {
     met
 }
 
-/// Fills a record of points or of lost intervals; gives its intervals.
+/// The bytes of a point: the origin, one about it, or one anywhere in range.
+fn random_point(rng: &mut Rng) -> [u8; 4] {
+    let most = rng.pick(&[0, 1, 16384, 16384, 16384, 16384]);
+    let [re, im] = [(); 2].map(|()| rng.between(-most, most) as i16);
+    let ([a, b], [c, d]) = (re.to_le_bytes(), im.to_le_bytes());
+    [a, b, c, d]
+}
+
+/// Fills a record of points, some at the origin, or of lost intervals; gives
+/// its intervals.
 fn fill_record(rng: &mut Rng, record: &mut [u8], most: u32) -> u32 {
     record.fill(0);
     if rng.below(3) == 0 && most > 0 {
@@ -59,9 +68,8 @@ fn fill_record(rng: &mut Rng, record: &mut [u8], most: u32) -> u32 {
     let count = 1 + rng.below(RECORD_POINTS as u64) as usize;
     record[2] = 1;
     record[3] = count as u8;
-    for at in 0..2 * count {
-        let coordinate = rng.between(-16384, 16384) as i16;
-        record[4 + 2 * at..6 + 2 * at].copy_from_slice(&coordinate.to_le_bytes());
+    for place in record[4..4 + 4 * count].chunks_exact_mut(4) {
+        place.copy_from_slice(&random_point(rng));
     }
     count as u32
 }
@@ -102,6 +110,16 @@ pub fn sound(rng: &mut Rng) -> Vec<u8> {
         last = index;
     }
     set_total(&mut store, total);
+    store
+}
+
+/// A sound store with a chain of one record at least, so that it can be damaged
+/// for each number.
+pub fn with_chain(rng: &mut Rng) -> Vec<u8> {
+    let mut store = sound(rng);
+    while chain(&store).is_empty() {
+        store = sound(rng);
+    }
     store
 }
 
@@ -164,7 +182,10 @@ fn break_record(rng: &mut Rng, store: &mut [u8]) {
     }
 }
 
-/// Damages a store for one of the numbers 11 to 15.
+/// The numbers that a store is damaged for.
+pub const DAMAGES: [u8; 5] = [11, 12, 13, 14, 15];
+
+/// Damages a store for one of them.
 pub fn damage(rng: &mut Rng, store: &mut Vec<u8>, number: u8) {
     match number {
         11 => break_size(rng, store),

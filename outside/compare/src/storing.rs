@@ -158,12 +158,8 @@ fn run_list(tally: &mut Tally, rng: &mut Rng) {
 
 /// A store with one or two faults of 11 to 15, in either order.
 fn run_damaged(tally: &mut Tally, rng: &mut Rng) {
-    let mut store = stores::sound(rng);
-    // A chain of one record at least, so that each fault can be put in.
-    while stores::chain(&store).is_empty() {
-        store = stores::sound(rng);
-    }
-    let faults = one_or_two(rng, &[11, 12, 13, 14, 15]);
+    let mut store = stores::with_chain(rng);
+    let faults = one_or_two(rng, &stores::DAMAGES);
     for &fault in &faults {
         stores::damage(rng, &mut store, fault);
     }

@@ -9,6 +9,9 @@ const SHOWN: u64 = 5;
 pub struct Tally {
     counts: [u64; NUMBERS],
     pairs: u64,
+    /// Calls with one fault, by it and itself, or with two, by the lower and the
+    /// higher.
+    faults: [[u64; NUMBERS]; NUMBERS],
     differences: u64,
 }
 
@@ -23,9 +26,27 @@ impl Tally {
     pub fn expect_lowest(&mut self, faults: &[u8], number: u8) {
         self.pairs += u64::from(faults.len() > 1);
         let lowest = faults.iter().min().copied().unwrap_or(0);
+        let highest = faults.iter().max().copied().unwrap_or(0);
+        if faults.len() <= 2 {
+            self.faults[usize::from(lowest)][usize::from(highest)] += 1;
+        }
         self.check(lowest == number, || {
             format!("{number} for the faults {faults:?}")
         });
+    }
+
+    /// Each of some numbers, the lowest first, was met alone, and every two of
+    /// them beside each other.
+    pub fn expect_each_two(&mut self, numbers: &[u8]) {
+        for (k, &one) in numbers.iter().enumerate() {
+            for &other in &numbers[k..] {
+                let met = self.faults[usize::from(one)][usize::from(other)] > 0;
+                self.check(met, || match one == other {
+                    true => format!("{one} was not met alone"),
+                    false => format!("{one} was not met beside {other}"),
+                });
+            }
+        }
     }
 
     /// Counts a difference unless the two sides agree.
@@ -54,7 +75,7 @@ impl Tally {
             .map(|number| format!("{number}: {}", self.counts[number]))
             .collect();
         println!(
-            "{name}: {} calls, {} accepted, refused {{{}}}, {} with two faults, {} differences",
+            "{name}: {} calls, {} accepted, refused {{{}}}, {} with several faults, {} differences",
             self.calls(),
             self.counts[0],
             refused.join(", "),

@@ -8,6 +8,7 @@ use std::io;
 use std::path::Path;
 use std::process::ExitCode;
 
+use outside::limits;
 use outside::listing;
 use outside::mode::Mode;
 use outside::rng::Rng;
@@ -42,6 +43,7 @@ fn write_samples(folder: &Path) -> io::Result<()> {
     write_store(folder, "mode2", &trained())?;
     write_store(folder, "mode3", &spliced(3, 1))?;
     write_store(folder, "mode4", &spliced(4, 0))?;
+    write_store(folder, "losses", &losses())?;
     write_store(folder, "empty", &made(2, 4, 1))?;
     write_store(folder, "damaged", &damaged())
 }
@@ -116,6 +118,20 @@ fn trained() -> Vec<u8> {
     store
 }
 
+/// Losses of each kind beside one another: records of lost intervals, and origin
+/// points, also as the first and the last of a record.
+fn losses() -> Vec<u8> {
+    let mut store = made(8, 2, 0);
+    append_points(&mut store, &[4096, 0, 2896, 2896, 0, 0]).unwrap();
+    append_lost(&mut store, 5).unwrap();
+    append_lost(&mut store, 7).unwrap();
+    append_points(&mut store, &[0, 0, 0, 4096, 0, 0, 0, 0, -4096, 0]).unwrap();
+    append_lost(&mut store, 1).unwrap();
+    append_lost(&mut store, 1).unwrap();
+    append_point(&mut store, 0, 0).unwrap();
+    store
+}
+
 /// A chain that leads past the end of its store.
 fn damaged() -> Vec<u8> {
     let mut store = spliced(4, 0);
@@ -123,14 +139,17 @@ fn damaged() -> Vec<u8> {
     store
 }
 
-/// Random stores of all modes and sizes, some damaged, and one that is too long.
+/// Random stores of all modes and sizes, some damaged, stores at the limits, and
+/// one that is too long.
 fn write_many(folder: &Path) -> io::Result<()> {
     for seed in 0..MANY {
         let mut rng = Rng::new(1000 + seed);
         write_store(folder, &format!("random{seed}"), &random(&mut rng, seed))?;
     }
+    for (name, store) in limits::stores() {
+        write_store(folder, name, &store)?;
+    }
     write_store(folder, "none", &[])?;
-    write_store(folder, "full", &full())?;
     write_store(folder, "long", &vec![0; 3 * MOST_RECORDS * RECORD])
 }
 
@@ -166,13 +185,4 @@ fn append_some(store: &mut [u8], rng: &mut Rng) -> bool {
         .map(|_| rng.between(-most, most) as i16)
         .collect();
     append_points(store, &numbers).is_ok()
-}
-
-/// The longest listing but a few bytes: a great loss, and then points alone.
-fn full() -> Vec<u8> {
-    let mut store = made(MOST_RECORDS, 4, 0);
-    append_lost(&mut store, 4_294_952_000).unwrap();
-    let points = [3072, 1024].repeat(7 * (MOST_RECORDS - 2));
-    append_points(&mut store, &points).unwrap();
-    store
 }

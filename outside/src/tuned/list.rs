@@ -1,22 +1,29 @@
 //! A listing: the points between lost counts are received as a block, and each
-//! line is its place and one of a few texts.
+//! line is its place and one of a few texts. Gaps are counted as their lines are
+//! written; the other sums follow from them.
 
 use super::chain;
 use super::receive::receive_bits_in_passes;
+use super::sums::sums_of;
 use crate::mode::Mode;
 use crate::receiver::{self, Receiver, GAP_BYTE, REFERENCE_BYTE};
 use crate::refusal::{need, Refusal};
 use crate::store::{
     Chain, BODY_AT, COUNT_AT, KIND_AT, KIND_LOST, MODE_AT, MOST_RECORDS, RECORD_POINTS, ROLE_AT,
 };
+use crate::sums::Sums;
 
 /// Bytes that are written at once; fewer may be part of the text.
 const PIECE: usize = 16;
 /// The longest line of a point: ten digits, and a piece.
 const LONGEST_LINE: usize = 10 + PIECE;
-/// The lent bytes that a listing takes: the first line, the points' lines, and
-/// what a last piece writes beyond the text.
-pub const LISTING_ROOM: usize = 64 + LONGEST_LINE * RECORD_POINTS * (MOST_RECORDS - 1) + PIECE;
+/// The longest first line, and the longest line of sums.
+const FIRST_LINE: usize = 64;
+const LAST_LINE: usize = 64;
+/// The lent bytes that a listing takes: its lines, and what a last piece writes
+/// beyond the text.
+pub const LISTING_ROOM: usize =
+    FIRST_LINE + LONGEST_LINE * RECORD_POINTS * (MOST_RECORDS - 1) + PIECE + LAST_LINE;
 
 /// Writes what `listing::list` gives into the lent bytes; gives how many bytes
 /// the text has. Those beyond it may be written too. Refuses by 7 alone: fewer
@@ -26,20 +33,25 @@ pub fn list(store: &[u8], out: &mut [u8]) -> Result<usize, Refusal> {
     let mut text = Text { out, end: 0 };
     match chain::check(store) {
         Ok(chain) => list_track(store, &chain, &mut text)?,
-        Err(refusal) => text.put(format!("refused {}\n", refusal.0).as_bytes()),
+        Err(refusal) => text.put_line(&[("refused ", refusal.0.into())]),
     }
     Ok(text.end)
 }
 
 fn list_track(store: &[u8], chain: &Chain, text: &mut Text) -> Result<(), Refusal> {
-    let (mode, role, total) = (store[MODE_AT], store[ROLE_AT], chain.total);
-    text.put(format!("track mode {mode} role {role} total {total}\n").as_bytes());
+    let (mode, role) = (store[MODE_AT], store[ROLE_AT]);
+    text.put_line(&[
+        ("track mode ", mode.into()),
+        (" role ", role.into()),
+        (" total ", chain.total.into()),
+    ]);
     let texts = &BIT_TEXTS[Mode::find(mode)?.width as usize - 2];
     let mut points = Points {
         state: receiver::fresh(mode, role)?,
         numbers: Vec::with_capacity(2 * chain.events),
         line: vec![0; chain.events],
         plain: vec![0; chain.events],
+        gaps: 0,
     };
     chain::walk(store, |_, record| {
         if record[KIND_AT] == KIND_LOST {
@@ -52,15 +64,20 @@ fn list_track(store: &[u8], chain: &Chain, text: &mut Text) -> Result<(), Refusa
         points.numbers.extend(numbers);
         Ok(())
     })?;
-    points.list(text, texts)
+    points.list(text, texts)?;
+    let Sums { points, lost, gaps } = sums_of(chain, points.gaps);
+    text.put_line(&[("sum points ", points), (" lost ", lost), (" gaps ", gaps)]);
+    Ok(())
 }
 
-/// Points that are not listed yet, and the receiver before them.
+/// Points that are not listed yet, the receiver before them, and the gaps that
+/// are listed.
 struct Points {
     state: Receiver,
     numbers: Vec<i16>,
     line: Vec<u8>,
     plain: Vec<u8>,
+    gaps: usize,
 }
 
 impl Points {
@@ -74,7 +91,10 @@ impl Points {
             text.put_piece(place.left_aligned(), place.digits);
             match line {
                 REFERENCE_BYTE => text.put(b" ref\n"),
-                GAP_BYTE => text.put(b" lost 1\n"),
+                GAP_BYTE => {
+                    self.gaps += 1;
+                    text.put(b" lost 1\n");
+                }
                 _ => text.put_piece(texts.of_bits(line, plain), texts.length),
             }
             place.add_1();
@@ -85,8 +105,9 @@ impl Points {
 
     /// Passes a gap and writes its line.
     fn lose(&mut self, text: &mut Text, lost: u32) -> Result<(), Refusal> {
-        text.put(format!("{} lost {lost}\n", self.state.place.0).as_bytes());
+        text.put_line(&[("", self.state.place.0.into()), (" lost ", lost.into())]);
         self.state = receiver::receive_gap(self.state, lost)?.1;
+        self.gaps += 1;
         Ok(())
     }
 }
@@ -101,6 +122,25 @@ impl Text<'_> {
     fn put(&mut self, bytes: &[u8]) {
         self.out[self.end..self.end + bytes.len()].copy_from_slice(bytes);
         self.end += bytes.len();
+    }
+
+    /// Writes words, each with a number behind it, and ends the line.
+    fn put_line(&mut self, parts: &[(&str, u64)]) {
+        for &(word, number) in parts {
+            self.put(word.as_bytes());
+            self.put_number(number);
+        }
+        self.put(b"\n");
+    }
+
+    fn put_number(&mut self, number: u64) {
+        let digits = 1 + number.checked_ilog10().unwrap_or(0) as usize;
+        let mut rest = number;
+        for digit in self.out[self.end..self.end + digits].iter_mut().rev() {
+            *digit = b'0' + (rest % 10) as u8;
+            rest /= 10;
+        }
+        self.end += digits;
     }
 
     /// Writes a piece whole, of which so many bytes are part of the text.

@@ -8,9 +8,11 @@ mod passes;
 mod receive;
 mod send;
 mod serial;
+mod sums;
 mod symbol;
 
 pub use append::append_points;
 pub use list::{list, LISTING_ROOM};
 pub use receive::{receive_in_passes, receive_points};
 pub use send::send;
+pub use sums::sums;

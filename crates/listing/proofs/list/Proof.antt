@@ -1,6 +1,5 @@
-use native.Mathlib.Omega.{arith}
 use denote.Ref.{now}
-use Rattle.store.proofs.Views.{told-refused, told-viewed}
+use Rattle.summing.proofs.Walks.{told-refused, told-sums}
 use Rattle.listing.proofs.Writes.{wrote-as}
 use Rattle.listing.proofs.Texts.{list-short, list-done, refused-text}
 use borrow.Author.Needs.{needs}
@@ -10,8 +9,8 @@ use Rattle.listing.proofs.list.Tie as tie
 returns : tie.Need-returns
 returns c = let a = c .before .before .before .args in list-short (now (a .store)) (now (a .out)) (c .if1 .taken)
 
-inspect-requires : tie.Need-inspect-requires
-inspect-requires c κs = search needs
+sums-requires : tie.Need-sums-requires
+sums-requires c κs = search needs
 
 enum-known-number : tie.Need-enum-known-number
 enum-known-number c = search needs
@@ -22,11 +21,8 @@ put-refused-requires c κs = search needs
 enum-known-v : tie.Need-enum-known-v
 enum-known-v c = search needs
 
-cast-put-track : tie.Need-cast-put-track
-cast-put-track c = let w = told-viewed (now (c .before .before .before .before .before .before .before .before .before .args .store)) _ _ (c .before .before .before .before .before .inspect .ensures) (c .before .before .before .v .given .1) in omega (arith, w .small .2)
-
 put-track-requires : tie.Need-put-track-requires
-put-track-requires c κs = let w = told-viewed (now (c .before .before .before .before .before .before .before .before .before .args .store)) _ _ (c .before .before .before .before .before .inspect .ensures) (c .before .before .before .v .given .1) in (w .accepted, w .total-is)
+put-track-requires c κs = told-sums (now (c .before .before .before .before .before .before .before .before .args .store)) _ _ (c .before .before .before .before .sums .ensures) (c .before .before .v .given .1)
 
 same-length : tie.Need-same-length
 same-length c = search needs
@@ -34,25 +30,26 @@ same-length c = search needs
 returns-2 : tie.Need-returns-2
 returns-2 c =
     let a = c .before .before .before .before .before .before .before .before .before .before .before .args in
-    let t = told-refused (now (a .store)) _ _ (c .before .before .before .before .before .before .before .inspect .ensures) (c .before .before .before .before .before .number .given .1) in
+    let t = told-refused (now (a .store)) _ _ (c .before .before .before .before .before .before .before .sums .ensures) (c .before .before .before .before .before .number .given .1) in
     list-done (now (a .store)) (now (a .out)) _ _ (c .before .before .before .before .before .before .before .before .if1 .left) (wrote-as (refused-text (now (a .store)) _ (t .0) (t .1)) (c .before .before .put-refused .ensures))
 
 same-length-2 : tie.Need-same-length-2
 same-length-2 c = search needs
 
 returns-3 : tie.Need-returns-3
-returns-3 c = let a = c .before .before .before .before .before .before .before .before .before .before .before .before .args in list-done (now (a .store)) (now (a .out)) _ _ (c .before .before .before .before .before .before .before .before .before .if1 .left) (c .before .before .put-track .ensures)
+returns-3 c =
+    let a = c .before .before .before .before .before .before .before .before .before .before .before .args in
+    list-done (now (a .store)) (now (a .out)) _ _ (c .before .before .before .before .before .before .before .before .if1 .left) (c .before .before .put-track .ensures)
 
 pub list-spec : {M : Type 1} → statement M
 list-spec =
     tie.close
     (tie.spec
     returns
-    inspect-requires
+    sums-requires
     enum-known-number
     put-refused-requires
     enum-known-v
-    cast-put-track
     put-track-requires
     same-length
     returns-2

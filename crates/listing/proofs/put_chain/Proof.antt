@@ -5,7 +5,8 @@ use denote.Ref.{now}
 use borrow.Author.Needs.{needs}
 use Rattle.store.specs.Layout.{count}
 use Rattle.store.proofs.Readings.{along-in}
-use Rattle.listing.proofs.Lines.{Listing, listing-start, listing-here, listing-step, listing-end, next-first, next-later}
+use Rattle.store.proofs.Records.{next-first, next-later}
+use Rattle.listing.proofs.Lines.{Listing, listing-start, listing-here, listing-step, listing-end}
 use Rattle.listing.proofs.put_chain.Statement.{statement}
 use Rattle.listing.proofs.put_chain.Tie as tie
 

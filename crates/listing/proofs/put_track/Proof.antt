@@ -17,6 +17,12 @@ get8-requires-2 c κs = tt
 cast-role : tie.Need-cast-role
 cast-role c = search needs
 
+get32-requires : tie.Need-get32-requires
+get32-requires c κs = tt
+
+cast-put-first : tie.Need-cast-put-first
+cast-put-first c = search needs
+
 put-first-requires : tie.Need-put-first-requires
 put-first-requires c κs = tt
 
@@ -24,18 +30,24 @@ fresh-state-requires : tie.Need-fresh-state-requires
 fresh-state-requires c κs = tt
 
 put-chain-requires : tie.Need-put-chain-requires
-put-chain-requires c κs =
-    let a = c .before .before .before .before .before .before .before .before .before .before .args in
-    let h = c .before .before .before .before .before .before .before .before .before .before .pre in
-    (h .0, track-free (now (a .s)) _ _ (a .sum) _ (h .0) (c .before .before .before .before .before .before .before .get8 .ensures .0) (c .before .before .before .before .before .before .get82 .ensures .0) (h .1) (c .fresh-state .ensures) (omega arith), track-room (now (a .s)) _ _ (a .sum) _ (h .0) (c .before .before .before .before .before .before .before .get8 .ensures .0) (c .before .before .before .before .before .before .get82 .ensures .0) (h .1) (c .fresh-state .ensures) _ (c .before .before .before .before .put-first .ensures .behind))
+put-chain-requires c κs = (
+  c .before .before .before .before .before .before .before .before .before .before .before .pre .0,
+  track-free (now (c .before .before .before .before .before .before .before .before .before .before .before .args .s)) _ _ _ _ (c .before .before .before .before .before .before .before .before .before .before .before .pre .0) (c .before .before .before .before .before .before .before .before .get8 .ensures .0) (c .before .before .before .before .before .before .before .get82 .ensures .0) (c .before .before .before .before .before .get32 .ensures .0) (c .fresh-state .ensures) (omega (arith, c .before .before .before .before .before .get32 .ensures .1)),
+  track-room (now (c .before .before .before .before .before .before .before .before .before .before .before .args .s)) _ _ _ _ (c .before .before .before .before .before .before .before .before .before .before .before .pre .0) (c .before .before .before .before .before .before .before .before .get8 .ensures .0) (c .before .before .before .before .before .before .before .get82 .ensures .0) (c .before .before .before .before .before .get32 .ensures .0) (c .fresh-state .ensures) _ (c .before .before .before .before .put-first .ensures .behind),
+)
+
+put-sums-requires : tie.Need-put-sums-requires
+put-sums-requires c κs = (
+  omega (arith, c .before .before .before .put-chain .ensures .behind, track-room (now (c .before .before .before .before .before .before .before .before .before .before .before .before .before .before .before .args .s)) _ _ _ _ (c .before .before .before .before .before .before .before .before .before .before .before .before .before .before .before .pre .0) (c .before .before .before .before .before .before .before .before .before .before .before .before .get8 .ensures .0) (c .before .before .before .before .before .before .before .before .before .before .before .get82 .ensures .0) (c .before .before .before .before .before .before .before .before .before .get32 .ensures .0) (c .before .before .before .before .fresh-state .ensures) _ (c .before .before .before .before .before .before .before .before .put-first .ensures .behind)),
+  c .before .before .before .before .before .before .before .before .before .before .before .before .before .before .before .pre .2,
+)
 
 same-length : tie.Need-same-length
 same-length c = search needs
 
 returns : tie.Need-returns
 returns c =
-    let a = c .before .before .before .before .before .before .before .before .before .before .before .before .before .args in
-    track-wrote (now (a .s)) _ _ (a .sum) _ (c .before .before .before .before .before .before .before .before .before .before .before .before .before .pre .0) (c .before .before .before .before .before .before .before .before .before .before .get8 .ensures .0) (c .before .before .before .before .before .before .before .before .before .get82 .ensures .0) (c .before .before .before .before .before .before .before .before .before .before .before .before .before .pre .1) (c .before .before .before .fresh-state .ensures) (c .before .before .before .before .before .before .before .put-first .ensures) (c .before .before .put-chain .ensures)
+    track-wrote (now (c .before .before .before .before .before .before .before .before .before .before .before .before .before .before .before .before .before .before .args .s)) _ _ _ _ (c .before .before .before .before .before .before .before .before .before .before .before .before .before .before .before .before .before .before .pre .0) (c .before .before .before .before .before .before .before .before .before .before .before .before .before .before .before .get8 .ensures .0) (c .before .before .before .before .before .before .before .before .before .before .before .before .before .before .get82 .ensures .0) (c .before .before .before .before .before .before .before .before .before .before .before .before .get32 .ensures .0) (c .before .before .before .before .before .before .before .fresh-state .ensures) _ (c .before .before .before .before .before .before .before .before .before .before .before .before .before .before .before .before .before .before .pre .1) (c .before .before .before .before .before .before .before .before .before .before .before .put-first .ensures) (c .before .before .before .before .before .before .put-chain .ensures) (c .before .before .put-sums .ensures)
 
 pub put-track-spec : {M : Type 1} → statement M
 put-track-spec =
@@ -45,8 +57,11 @@ put-track-spec =
     cast-mode
     get8-requires-2
     cast-role
+    get32-requires
+    cast-put-first
     put-first-requires
     fresh-state-requires
     put-chain-requires
+    put-sums-requires
     same-length
     returns)

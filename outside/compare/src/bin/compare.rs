@@ -1,20 +1,21 @@
 //! Compares the proved library with the outside implementation: line, receiver,
-//! bulk, store, sender, listing, or all of them where none is named.
+//! bulk, store, sender, listing, sums, or all of them where none is named.
 
 use std::process::ExitCode;
 
-use compare::{bulk, line, listing, receiving, sending, storing};
+use compare::{bulk, line, listing, receiving, sending, storing, summing};
 
 /// What a name compares; whether there was no difference.
 type Part = (&'static str, fn() -> bool);
 
-const PARTS: [Part; 6] = [
+const PARTS: [Part; 7] = [
     ("line", line::compare),
     ("receiver", || receiving::compare(1_200_000)),
     ("bulk", || bulk::compare(100_000)),
     ("store", || storing::compare(120_000)),
     ("sender", || sending::compare(200_000)),
     ("listing", || listing::compare(20_000)),
+    ("sums", || summing::compare(200_000)),
 ];
 
 fn main() -> ExitCode {

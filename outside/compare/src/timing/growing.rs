@@ -20,17 +20,18 @@ const STORE_MODE: u8 = 4;
 /// The call of a row of stores.
 type StoreCall = fn(&Filled) -> Work<'_>;
 
-const STORE_CALLS: [(&str, StoreCall); 4] = [
+const STORE_CALLS: [(&str, StoreCall); 5] = [
     ("append, bulk, store made anew", Filled::bulk_append),
     ("append, single, nearly full store", Filled::single_append),
     ("read, nearly full store", Filled::reading),
     ("list, nearly full store", Filled::listing),
+    ("sums, nearly full store", Filled::sums),
 ];
 
 /// Times the smallest call of a kind.
 type SmallestCall = fn(Signal) -> [Option<f64>; 3];
 
-const SMALLEST_CALLS: [(&str, SmallestCall); 7] = [
+const SMALLEST_CALLS: [(&str, SmallestCall); 8] = [
     ("receive, bulk, 0 points", |signal| {
         measure(Blocks::of_one(signal, &[]).work())
     }),
@@ -49,6 +50,9 @@ const SMALLEST_CALLS: [(&str, SmallestCall); 7] = [
     }),
     ("list, empty store of 2 records", |signal| {
         measure(Filled::empty(signal).listing())
+    }),
+    ("sums, empty store of 2 records", |signal| {
+        measure(Filled::empty(signal).sums())
     }),
 ];
 

@@ -19,7 +19,7 @@ use crate::signal::Signal;
 /// timed with each role; a store's other rows do not depend on the role.
 type Row = (&'static str, fn(&str, Signal), bool);
 
-const ROWS: [Row; 14] = [
+const ROWS: [Row; 15] = [
     ("noise: plain against itself", receiving::noise, true),
     ("receive, single", receiving::single, true),
     (
@@ -54,6 +54,7 @@ const ROWS: [Row; 14] = [
     ("append, bulk, 2,048 records", storing::append_bulk, false),
     ("read, 2,048 records", storing::read, false),
     ("list, 2,048 records", storing::list, true),
+    ("sums, 2,048 records", storing::sums, false),
 ];
 
 /// One run: prints the medians of every row whose name contains the word.

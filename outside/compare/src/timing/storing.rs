@@ -3,7 +3,9 @@
 use std::hint::black_box;
 
 use outside::listing;
+use outside::refusal::Refusal;
 use outside::store::{self, FEWEST_RECORDS, RECORD, RECORD_POINTS};
+use outside::sums::{self, Sums};
 use outside::tuned;
 
 use super::measure::{Side, Work};
@@ -132,6 +134,26 @@ impl Filled {
             })),
         }
     }
+
+    /// Sums by one of the two implementations.
+    fn sums_side<'a>(&'a self, sums: fn(&[u8]) -> Result<Sums, Refusal>) -> Side<'a> {
+        Box::new(move |kept| {
+            let sums = black_box(sums(&self.store)).expect("accepted");
+            keep_sums(kept, sums.numbers());
+        })
+    }
+
+    pub fn sums(&self) -> Work<'_> {
+        Work {
+            proved: Box::new(|kept| {
+                let mut sums = [0; 3];
+                black_box(ours::sums(&self.store, &mut sums));
+                keep_sums(kept, black_box(sums));
+            }),
+            plain: Some(self.sums_side(sums::sums)),
+            tuned: Some(self.sums_side(tuned::sums)),
+        }
+    }
 }
 
 /// Making the smallest store.
@@ -163,6 +185,12 @@ fn keep_numbers(kept: Option<&mut Vec<u8>>, numbers: &[i64]) {
     }
 }
 
+fn keep_sums(kept: Option<&mut Vec<u8>>, sums: [u64; 3]) {
+    if let Some(kept) = kept {
+        kept.extend(sums.iter().flat_map(|number| number.to_le_bytes()));
+    }
+}
+
 fn largest(signal: Signal) -> Filled {
     Filled::of(signal, store::MOST_RECORDS)
 }
@@ -185,4 +213,9 @@ pub fn read(name: &str, signal: Signal) {
 pub fn list(name: &str, signal: Signal) {
     let points = capacity(store::MOST_RECORDS) - 1;
     call_row(name, signal, points, largest(signal).listing());
+}
+
+pub fn sums(name: &str, signal: Signal) {
+    let points = capacity(store::MOST_RECORDS) - 1;
+    call_row(name, signal, points, largest(signal).sums());
 }
