@@ -1,7 +1,7 @@
 -- A test over a list, computed once, and the law that carries it to each member. Assumes nothing.
 use mathlib.Core.Path.{_≡_, refl, sym, ap, _∙_, subst}
 use mathlib.Core.Bool.{Bool, true, false, _&&_, _||_, not, cond}
-use mathlib.Core.List.{List, [], _∷_}
+use mathlib.Core.List.{List, [], _∷_, _++_}
 use Prim.Native.Nat.{ℕ, zero, suc, _+_, _%_, _<_, _≤_}
 use native.Mathlib.Nat.{not-suc-le-zero, mod-lt}
 use native.Mathlib.Omega.{arith}
@@ -56,6 +56,11 @@ every-at f (y ∷ ys) x t h =
 member-or : (x y : ℕ) (t : Bool) (b : Bool) → eqb x y ≡ b → ((x ≡ y → ⊥) → T t) → T (b || t)
 member-or x y t true e k = tt
 member-or x y t false e k = k (eqb-false x y e)
+
+pub every-append : (f : ℕ → Bool) (xs ys : List ℕ) → T (every f xs) → T (every f ys) → T (every f (xs ++ ys))
+every-append f [] ys t u = u
+every-append f (x ∷ xs) ys t u =
+    and-intro (f x) (every f (xs ++ ys)) (and-left (f x) (every f xs) t) (every-append f xs ys (and-right (f x) (every f xs) t) u)
 
 pub member-below : (n x : ℕ) → x < n → T (member x (below n))
 member-below zero x h = absurd (not-suc-le-zero h)

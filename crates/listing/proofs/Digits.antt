@@ -1,16 +1,20 @@
 -- A number's decimal digits, counted and written from the last one on. Assumes nothing.
 use mathlib.Core.Path.{_≡_, refl, sym, ap, _∙_}
+use mathlib.Core.Bool.{Bool, true}
 use mathlib.Core.List.{List, [], _∷_, _++_}
-use Prim.Native.Nat.{ℕ, zero, suc, _+_, _-_, _/_, _%_, _^_, _≤_, _<_}
+use Prim.Native.Nat.{ℕ, zero, suc, _+_, _*_, _-_, _/_, _%_, _^_, _≤_, _<_}
 use native.Mathlib.Omega.{arith}
 use native.Mathlib.Nat.{pow-suc}
 use borrow.Author.Tests.{lt-ltb, le-ltb, ltb-true}
-use lib.Dec.{ltb}
+use lib.Dec.{T, ltb, lt→ltb}
 use lib.ListN.{length, set, length-append}
 use lib.Seq.{sets, set-comm}
+use Rattle.line.proofs.TableLaws.{and-intro, every-append}
 use Rattle.line.proofs.Tests.{by-test}
 use Rattle.octets.proofs.Sets.{sets-then}
+use Rattle.line.specs.Table.{every}
 use Rattle.listing.specs.Text.{digits, decimal}
+use Rattle.listing.specs.Agreement.{value}
 
 -- the last j digits of a number
 abbrev pub spelt : ℕ → ℕ → List ℕ
@@ -51,6 +55,48 @@ decimal-long n = digits-long 10 n
 pub decimal-one : (n : ℕ) → n < 10 → length (decimal n) ≡ 1
 unfolding decimal
 decimal-one n h = ap length (digits-few 9 n h)
+
+-- ---- read
+-- every byte is above c
+abbrev pub above : ℕ → List ℕ → Bool
+above c u = every (ltb c) u
+
+-- a byte from 48 on is above c
+pub byte-above : (c n : ℕ) → c < 48 → T (ltb c (48 + n))
+byte-above c n h = lt→ltb c (48 + n) (omega arith)
+
+digits-above : (k n c : ℕ) → c < 48 → T (above c (digits k n))
+digits-above zero n c h = tt
+digits-above (suc k) n c h =
+    by-test (ltb n 10)
+    (λ e. rw e (and-intro (ltb c (48 + n)) true (byte-above c n h) tt))
+    (λ e. rw e (every-append (ltb c) (digits k (n / 10)) _ (digits-above k (n / 10) c h) (and-intro (ltb c (48 + n % 10)) true (byte-above c (n % 10) h) tt)))
+
+pub decimal-above : (n c : ℕ) → c < 48 → T (above c (decimal n))
+unfolding decimal
+decimal-above n c h = digits-above 10 n c h
+
+pub decimal-some : (n : ℕ) → 1 ≤ length (decimal n)
+unfolding decimal
+decimal-some n =
+    by-test (ltb n 10)
+    (λ e. rw e (omega arith))
+    (λ e. rw e (simp length-append (omega arith)))
+
+value-last : (n : ℕ) (u : List ℕ) (d : ℕ) → value n (u ++ (d ∷ [])) ≡ 10 * value n u + (d - 48)
+value-last n [] d = refl
+value-last n (x ∷ u) d = value-last (10 * n + (x - 48)) u d
+
+digits-value : (k n : ℕ) → n < 10 ^ k → value 0 (digits k n) ≡ n
+digits-value zero n h = omega (arith, let q : n < 1 = h in q)
+digits-value (suc k) n h =
+    by-test (ltb n 10)
+    (λ e. rw e (omega arith))
+    (λ e. rw e (value-last 0 (digits k (n / 10)) (48 + n % 10) ∙ omega (arith, digits-value k (n / 10) (omega (arith, h, pow-suc 10 k)))))
+
+pub decimal-value : (n : ℕ) → n ≤ 4294967295 → value 0 (decimal n) ≡ n
+unfolding decimal
+decimal-value n h = digits-value 10 n (let q : n < 10000000000 = omega arith in q)
 
 -- ---- counted
 -- k - 1 digits are passed, and f + 1 hold the rest

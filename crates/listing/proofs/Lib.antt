@@ -6,3 +6,4 @@ pub mod Heards
 pub mod PointTexts
 pub mod Texts
 pub mod Example
+pub mod Agreements

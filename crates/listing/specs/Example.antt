@@ -3,7 +3,8 @@ use mathlib.Core.Path.{_≡_}
 use mathlib.Core.List.{List, [], _∷_, _++_}
 use Prim.Native.Nat.{ℕ}
 use lib.ListN.{replicate}
-use Rattle.listing.specs.Text.{text}
+use Rattle.store.specs.Store.{events, refusal}
+use Rattle.listing.specs.Text.{firstLine, modeIn, roleIn, text}
 
 -- a mode 1 store of (4096, 0), (0, 4096), lost 3, (−4096, 0)
 abbrev pub store : List ℕ
@@ -25,3 +26,9 @@ listed =
 
 abbrev pub SixLines : Type 0
 SixLines = text store ≡ listed
+
+-- an empty track: its first line, and "sum points 0 lost 0 gaps 0"
+abbrev pub EmptyTrack : Type 0
+EmptyTrack = (s : List ℕ) → refusal s ≡ 0 → events s ≡ []
+    → text s ≡ firstLine (modeIn s) (roleIn s) 0
+    ++ (115 ∷ 117 ∷ 109 ∷ 32 ∷ 112 ∷ 111 ∷ 105 ∷ 110 ∷ 116 ∷ 115 ∷ 32 ∷ 48 ∷ 32 ∷ 108 ∷ 111 ∷ 115 ∷ 116 ∷ 32 ∷ 48 ∷ 32 ∷ 103 ∷ 97 ∷ 112 ∷ 115 ∷ 32 ∷ 48 ∷ 10 ∷ [])

@@ -1,4 +1,5 @@
 pub mod Text
 pub mod Laws
+pub mod Agreement
 pub mod Example
 pub mod Wrote

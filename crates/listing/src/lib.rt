@@ -318,8 +318,8 @@ fn put_refused(out: &mut [u8], number: u8) -> usize
     ensures { λ r. ⌜ Wrote (now (out .entry)) 0 (refusedLine number) (now (out .exit)) r ⌝ }
 {
     let at = put_text(out, 0, b"refused ");
-    let end = put_decimal(out, at, number as u32);
-    put_text(out, end, b"\n")
+    let digits_end = put_decimal(out, at, number as u32);
+    put_text(out, digits_end, b"\n")
 }
 
 // What listing gives: the number that refuses it, or the length of the text.

@@ -28,7 +28,7 @@ use Rattle.sender.specs.Sender.{coderOf, afterGroup}
 use Rattle.sender.specs.Calls.{DataPoint}
 use Rattle.sender.proofs.RefusalLaws.{StateOk, state-ok}
 use Rattle.sender.proofs.StateLaws.{can-send, state-after}
-use Rattle.sender.proofs.JoinLaws.{every-append}
+use Rattle.line.proofs.TableLaws.{every-append}
 use Rattle.sender.proofs.DataLaws.{Made}
 use Rattle.resync.specs.DataPoints.{received}
 

@@ -14,7 +14,7 @@ use Rattle.line.specs.Table.{every}
 use Rattle.line.specs.Mode.{width}
 use Rattle.line.specs.Refusal.{orNext, accepted}
 use Rattle.line.proofs.ByMode.{width-range}
-use Rattle.line.proofs.TableLaws.{and-left, and-right, and-intro}
+use Rattle.line.proofs.TableLaws.{every-append}
 use Rattle.line.proofs.RefusalLaws.{need-intro}
 use Rattle.scrambler.specs.Bits.{isBit}
 use Rattle.training.specs.Coder.{numbers}
@@ -84,11 +84,6 @@ unfolding grouped
 length-grouped w ds = length-groups w (length ds / w) ds
 
 -- CALLS
-
-pub every-append : (f : ℕ → Bool) (xs ys : List ℕ) → T (every f xs) → T (every f ys) → T (every f (xs ++ ys))
-every-append f [] ys t u = u
-every-append f (x ∷ xs) ys t u =
-    and-intro (f x) (every f (xs ++ ys)) (and-left (f x) (every f xs) t) (every-append f xs ys (and-right (f x) (every f xs) t) u)
 
 is-T : {b : Bool} → b ≡ true → T b
 is-T e = subst T (sym e) tt

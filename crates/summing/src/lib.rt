@@ -52,15 +52,17 @@ fn record_sums(r: &[u8]) -> EventSums
     if get8(r, 2) == 1 {
         let n = get8(r, 3);
         let origins = origins_in(r, n);
+        let decided = n as u64 - origins;
         return EventSums {
-            points: n as u64 - origins,
+            points: decided,
             lost: origins,
             gaps: origins,
         };
     }
+    let n = get32(r, 4) as u64;
     EventSums {
         points: 0,
-        lost: get32(r, 4) as u64,
+        lost: n,
         gaps: 1,
     }
 }

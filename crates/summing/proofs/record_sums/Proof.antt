@@ -14,8 +14,8 @@ get8-requires-2 c κs = search needs
 origins-in-requires : tie.Need-origins-in-requires
 origins-in-requires c κs = search needs
 
-sub-t7 : tie.Need-sub-t7
-sub-t7 c = search needs
+sub-decided : tie.Need-sub-decided
+sub-decided c = search needs
 
 returns : tie.Need-returns
 returns c =
@@ -35,7 +35,7 @@ record-sums-spec =
     get8-requires
     get8-requires-2
     origins-in-requires
-    sub-t7
+    sub-decided
     returns
     get32-requires
     returns-2)
