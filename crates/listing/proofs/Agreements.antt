@@ -1,20 +1,18 @@
 -- The lines of a listing agree with its sums. Assumes nothing.
-use mathlib.Core.Path.{_≡_, refl, sym, ap, ap₂, _∙_, subst⁻¹}
+use mathlib.Core.Path.{_≡_, refl, sym, ap, _∙_, subst⁻¹}
 use mathlib.Core.Bool.{true, false, cond}
 use mathlib.Core.List.{List, [], _∷_, _++_, map, append-assoc, append-nil}
-use Prim.Native.Nat.{ℕ, zero, suc, _+_, _*_, _-_, _/_, _%_, _^_, _≤_, _<_}
+use Prim.Native.Nat.{ℕ, zero, suc, _+_, _≤_}
 use native.Mathlib.Omega.{arith}
 use borrow.Author.Tests.{eq-eqb, ne-eqb}
 use lib.Dec.{T, eqb, leb, ltb, leb→le, ltb→lt}
 use lib.ListN.{length, getD, length-append}
 use Rattle.line.specs.declared.Point.{Point}
 use Rattle.line.specs.Point.{isOrigin}
-use Rattle.line.specs.Refusal.{accepted}
 use Rattle.line.proofs.RefusalLaws.{need-met, need-rest, next-rest, left-kept}
 use Rattle.line.proofs.TableLaws.{and-left, and-right, and-intro, every-append}
 use Rattle.line.proofs.Tests.{by-test}
 use Rattle.deciding.specs.Decide.{Region, State, Origin, NoSector, decide}
-use Rattle.deciding.specs.Distance.{distance}
 use Rattle.deciding.proofs.DecideLaws.{Off, at-origin}
 use Rattle.deciding.proofs.SectorLaws.{never-no-sector}
 use Rattle.scrambler.specs.Scramble.{Datum, unsettled, settled}
@@ -22,7 +20,7 @@ use Rattle.receiver.specs.declared.Reference.{Reference}
 use Rattle.receiver.specs.declared.Reference.the-variants.{Nothing as none, State as some}
 use Rattle.receiver.specs.declared.Receiver.{Receiver}
 use Rattle.receiver.specs.Receiver.{freshReceiver, Answer, refused, reference, decoded, stateAnswer, pointAnswer, eventAnswer, answer, stateRefusal, hasRoom, next}
-use Rattle.receiver.specs.Receiver.{Event as Call, gap, lost as lostAnswer, point as pointCall, refusal as eventRefused, eventRefusal as eventNeeds}
+use Rattle.receiver.specs.Receiver.{Event as Call, gap, lost as lostAnswer, refusal as eventRefused, eventRefusal as eventNeeds}
 use Rattle.receiver.specs.Calls.{EachAccepted}
 use Rattle.receiver.proofs.CallLaws.{accepted-off}
 use Rattle.store.specs.Chain.{sumOver}
@@ -31,8 +29,8 @@ use Rattle.store.specs.Store.{events, total, refusal}
 use Rattle.store.proofs.Chains.{sum-append}
 use Rattle.summing.specs.declared.EventSums.{EventSums}
 use Rattle.summing.specs.Sums.{decidedIn, lostIn, gapsIn, sumsOf}
-use Rattle.listing.specs.Text.{decimal, glyphs, lineGlyphs, trackMode, itsRole, itsTotal, lostAre, sumPoints, itsGaps, refusedBy, blank, lineEnd, kindText, lineText, taken, lines, numbersLine, firstLine, sumLine, chainText, refusedLine, modeIn, roleIn, text}
-use Rattle.listing.specs.Agreement.{cut, linesIn, same, value, refKind, bitsKind, lostKind, isKind, lostCount, Agrees, LinesAgree, OneLine}
+use Rattle.listing.specs.Text.{decimal, glyphs, lineGlyphs, trackMode, itsRole, itsTotal, lostAre, sumPoints, itsGaps, refusedBy, blank, lineEnd, kindText, lineText, taken, lines, numbersLine, sumLine, chainText, refusedLine, modeIn, roleIn, text}
+use Rattle.listing.specs.Agreement.{cut, same, value, refKind, bitsKind, lostKind, isKind, lostCount, Agrees, LinesAgree, OneLine}
 use Rattle.listing.proofs.Digits.{above, byte-above, decimal-above, decimal-some, decimal-value}
 use Rattle.listing.proofs.Heards.{none-refused}
 

@@ -2,12 +2,12 @@
 use mathlib.Core.Path.{_≡_, refl, sym, ap, _∙_, subst, subst⁻¹}
 use mathlib.Core.Bool.{true, _&&_}
 use mathlib.Core.List.{List, [], _∷_, _++_, map, map-append, append-assoc, append-nil}
-use Prim.Native.Nat.{ℕ, _+_, _*_, _≤_}
+use Prim.Native.Nat.{ℕ, _+_, _≤_}
 use native.Mathlib.Omega.{arith}
 use borrow.Author.Tests.{eq-eqb, leb-true}
 use lib.Dec.{leb}
 use lib.ListN.{length, drop}
-use Rattle.octets.specs.Number.{u16, u32}
+use Rattle.octets.specs.Number.{u32}
 use Rattle.line.proofs.Tests.{and-split}
 use Rattle.receiver.specs.declared.Intervals.{Intervals}
 use Rattle.receiver.specs.declared.Receiver.{Receiver}
@@ -17,12 +17,11 @@ use Rattle.receiver.specs.Receiver.{eventAnswer, answer, next}
 use Rattle.receiver.specs.Receiver.{Event as Call, gap, lost as lostFor, refusal as refused}
 use Rattle.receiver.specs.Calls.{after, EachAccepted}
 use Rattle.receiver.specs.Outcome.{stateOf, Told, gapOutcome, eventOutcome, outcome}
-use Rattle.store.specs.Layout.{rec, linkIn, kind, held, isPoints, points, pointsOk, recordOk, eventsOf}
+use Rattle.store.specs.Layout.{rec, kind, held, isPoints, points, pointsOk, recordOk, eventsOf}
 use Rattle.store.specs.Layout.{next as nextIn}
 use Rattle.store.specs.Store.{events, refusal}
 use Rattle.line.specs.Table.{All}
 use Rattle.store.proofs.Readings.{Along, along-start, along-step, ahead, ahead-start, ahead-step, left, left-start, left-step, left-end, of-points, of-lost}
-use Rattle.store.proofs.Records.{next-at, link-later}
 use Rattle.store.proofs.Sounds.{accepted-sound}
 use Rattle.listing.specs.declared.Progress.{Progress}
 use Rattle.listing.specs.Text.{taken, lineText, lines}

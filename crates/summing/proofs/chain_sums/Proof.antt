@@ -4,7 +4,6 @@ use mathlib.Core.List.{List}
 use Prim.Native.Nat.{ℕ}
 use native.Mathlib.Omega.{arith}
 use denote.Ref.{now}
-use borrow.Author.Needs.{needs}
 use Rattle.store.specs.Layout.{count, eventsOf}
 use Rattle.store.proofs.Readings.{along-in}
 use Rattle.store.proofs.Records.{next-first, next-later}

@@ -1,7 +1,6 @@
 use Prim.Native.Nat.{_-_}
 use native.Mathlib.Omega.{arith}
 use denote.Ref.{now}
-use borrow.Author.Needs.{needs}
 use Rattle.summing.proofs.SumLaws.{Counted, counted-start, counted-step, counted-end}
 use Rattle.summing.proofs.origins_in.Statement.{statement}
 use Rattle.summing.proofs.origins_in.Tie as tie
