@@ -20,11 +20,15 @@ use Rattle.store.specs.Chain.{sumOver}
 use Rattle.summing.specs.Sums.{decidedIn, lostIn}
 use Rattle.summing.proofs.SumLaws.{plus-is-total}
 use Rattle.listing.specs.Text.{decimal, kindText, lineText, numbersLine, chainText, refusedLine, text}
-use Rattle.listing.specs.Example.{SixLines, EmptyTrack}
+use Rattle.listing.specs.Example.{SixLines, NoneWraps, EmptyTrack}
 
 pub six-lines : SixLines
 unfolding entry rowFrom isMode isRole isState states width farTap capacity step quadrant turn quarterSteps face inRange isOrigin inFirst sector outer first turnedAnswer quarters decide changes4 changes8 changes16 eighths turnRow group signed back nearTap push registerOk mix freshReceiver isFresh fieldsOk modeRefusal stateRefusal hasRoom eventRefusal eventRefused stateAnswer pointAnswer eventAnswer answer forgotten stateLine stateNext pointNext eventNext next recordOk spanOf eventsOf nextIn chain events total sizeOk hasMark headOk chainOk recordsOk totalOk refusal decimal kindText lineText numbersLine chainText refusedLine text
 six-lines = refl
+
+pub none-wraps : NoneWraps
+unfolding isMode isRole recordOk spanOf nextIn chain total sizeOk hasMark headOk chainOk recordsOk totalOk refusal decimal refusedLine text
+none-wraps = refl
 
 pub empty-track : EmptyTrack
 unfolding text chainText numbersLine decimal

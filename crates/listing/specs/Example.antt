@@ -32,3 +32,13 @@ abbrev pub EmptyTrack : Type 0
 EmptyTrack = (s : List ℕ) → refusal s ≡ 0 → events s ≡ []
     → text s ≡ firstLine (modeIn s) (roleIn s) 0
     ++ (115 ∷ 117 ∷ 109 ∷ 32 ∷ 112 ∷ 111 ∷ 105 ∷ 110 ∷ 116 ∷ 115 ∷ 32 ∷ 48 ∷ 32 ∷ 108 ∷ 111 ∷ 115 ∷ 116 ∷ 32 ∷ 48 ∷ 32 ∷ 103 ∷ 97 ∷ 112 ∷ 115 ∷ 32 ∷ 48 ∷ 10 ∷ [])
+
+-- sums do not wrap: lost 4294967295 and lost 2 with a total of 1 are "refused 15"
+abbrev pub wrapping : List ℕ
+wrapping =
+    (86 ∷ 83 ∷ 89 ∷ 77 ∷ 1 ∷ 0 ∷ 1 ∷ 0 ∷ 1 ∷ replicate 23 0)
+    ++ (2 ∷ 0 ∷ 2 ∷ 0 ∷ 255 ∷ 255 ∷ 255 ∷ 255 ∷ replicate 24 0)
+    ++ (0 ∷ 0 ∷ 2 ∷ 0 ∷ 2 ∷ replicate 27 0)
+
+abbrev pub NoneWraps : Type 0
+NoneWraps = text wrapping ≡ (114 ∷ 101 ∷ 102 ∷ 117 ∷ 115 ∷ 101 ∷ 100 ∷ 32 ∷ 49 ∷ 53 ∷ 10 ∷ [])
