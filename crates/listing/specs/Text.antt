@@ -131,8 +131,9 @@ unfoldable pub text : List ℕ → List ℕ
 text s = accepted (refusal s) (chainText (modeIn s) (roleIn s) (total s) (events s)) (refusedLine (refusal s))
 
 -- a buffer that holds any listing: 37 bytes for the first line, 26 for each of seven lines of 2,047 records and 54 for the sums
--- (`NoneLonger` of specs/Laws). The lent bytes are judged by it and not by the text's own length, which is known only when the receiver has taken
--- every event, and it would have to take them again to write; and so a caller knows before the call what to lend.
+-- (`NoneLonger` of specs/Laws). The lent bytes are judged by it and not by the text's own length, which is known only when the
+-- receiver has taken every event, and it would have to take them again to write; and so a caller knows before the call what to
+-- lend.
 abbrev pub longest : ℕ
 longest = 372645
 

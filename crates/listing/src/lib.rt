@@ -11,6 +11,8 @@ use receiver::Outcome;
 use receiver::Receiver;
 use receiver::Reference;
 use receiver::receive_gap;
+use store::FIRST_AT;
+use store::TOTAL_AT;
 use summing::EventSums;
 use summing::Summed;
 pub use summing::sums;
@@ -221,7 +223,7 @@ fn put_chain(s: &[u8], out: &mut [u8], at: usize, state: Receiver) -> usize
 {
     let mut p = Progress { at, state };
     let mut k: usize = 0;
-    let mut i = get16(s, 6);
+    let mut i = get16(s, FIRST_AT);
     while i != 0 {
         p = put_record(record_at(s, i), out, p);
         k += 1;
@@ -308,7 +310,7 @@ fn put_track(s: &[u8], out: &mut [u8], v: EventSums) -> usize
 {
     let mode = get8(s, 4) as u8;
     let role = get8(s, 5) as u8;
-    let at = put_first(out, mode, role, get32(s, 8) as u32);
+    let at = put_first(out, mode, role, get32(s, TOTAL_AT) as u32);
     let end = put_chain(s, out, at, fresh_state(mode, role));
     put_sums(out, end, v)
 }

@@ -22,7 +22,7 @@ ghost use Rattle.store.specs.Reads.{numbers, Gives, readResult};
 ghost use Rattle.store.specs.Walk.{Sized, Passed, Walked, Tells};
 
 // Where record 0 holds the chain's first index and the total.
-const FIRST_AT: usize = 6;
+pub const FIRST_AT: usize = 6;
 
 pub const TOTAL_AT: usize = 8;
 

@@ -2,6 +2,7 @@
 use octets::get8;
 use octets::get16;
 use octets::get32;
+use store::FIRST_AT;
 use store::Inspected;
 ghost use mathlib.Core.Path.{_≡_};
 ghost use Prim.Native.Nat.{_+_, _≤_, _<_};
@@ -89,7 +90,7 @@ fn chain_sums(s: &[u8]) -> EventSums
         gaps: 0,
     };
     let mut k: usize = 0;
-    let mut i = get16(s, 6);
+    let mut i = get16(s, FIRST_AT);
     while i != 0 {
         let at = 32 * i;
         let end = at + 32;
