@@ -1,4 +1,5 @@
--- Document 01, "Listing program", and R-2: its example, from the store's bytes to the six lines.
+-- Document 01, "Listing program", and R-2: its example, from the store's bytes to the six lines; the empty track; a store whose sum
+-- would wrap to its total.
 use mathlib.Core.Path.{_≡_}
 use mathlib.Core.List.{List, [], _∷_, _++_}
 use Prim.Native.Nat.{ℕ}
