@@ -6,7 +6,8 @@
  * read, but must not be null.
  *
  * Each function returns 0, or the number of the refusal. A refusal leaves every lent byte and number as it was; of several
- * that apply, the lowest is given. The table over each function has its numbers and what they are about there. All numbers:
+ * that apply, the first in the order of this list is given, in which 18 stands between 7 and 8. The table over each function
+ * has its numbers in that order and what they are about there. All numbers:
  *
  *    1  mode not 1 to 4, a handed-in state's included
  *    2  role not one of the mode's, a state's included
@@ -17,9 +18,10 @@
  *    6  data bits not a multiple of w (none is fine)
  *    7  lent numbers too few from the offset, or an offset past their end; also fewer lent bytes than a state, an answer, a
  *       block or a listing has, fewer lent numbers than a block has distances or a track has sums, no lent number for a count,
- *       and an odd count of the numbers of points
- *    8  a coordinate outside -16384 to 16384
- *    9  a gap, or a lost count to append, of 0
+ *       and an odd count of the numbers or floats of points
+ *   18  a coordinate in levels, or a power, that is NaN or infinite
+ *    8  a coordinate outside -16384 to 16384; one in levels after rounding
+ *    9  a gap, a hole, or a lost count to append, of 0
  *   10  a mode 2 point off the origin in none of the eight sectors; no point in whole numbers is one
  *   11  store size not 32 times an N from 2 to 2048
  *   12  record 0's four bytes, mode, role or a byte due to be zero
@@ -38,6 +40,13 @@
  * Role 0 is the calling sender, 1 the answering one; a receiver has the role of the sender that it listens to. A point is re
  * and im, 1024 to one level. A state of modes 1 and 2 is 0 to 7, at 45 degrees times the number (even ones only in mode 1); of
  * modes 3 and 4 it is the bits Y1 Y2 Q3 Q4 as a number, Y1 highest (1, 5, 9 and 13 only in mode 3).
+ *
+ * A point in levels has floats of 32 bits (IEEE 754) for coordinates: 1.0 is one level, 1024 units. Each becomes the whole
+ * number nearest 1024 times it, of two equally near ones the even one, so that it is never more than half a unit away; from
+ * there on the point is that of the two whole numbers, also in its distance. Range is judged after rounding: 16.00048828125 is
+ * 16384.5 units, becomes 16384 and is in range; the next greater float is not. A point with both coordinates of half a unit at
+ * most is the origin. A negative zero is zero. Turning by 90 degrees, which takes (re, im) to (-im, re), gives the same point
+ * before rounding and after it.
  *
  * Numbers in bytes are little-endian.
  */
@@ -109,6 +118,34 @@ uint8_t kerambiu_receive_point(uint8_t *state, size_t state_len, int16_t re, int
 uint8_t kerambiu_receive_gap(uint8_t *state, size_t state_len, uint32_t n, uint8_t *answer, size_t answer_len);
 
 /*
+ * Takes a point in levels: as kerambiu_receive_point takes the point that it is rounded to.
+ *    1, 2, 4  the state, if it has all its bytes
+ *    7        fewer bytes than a state or an answer has
+ *   18        re or im, also where the other is out of range
+ *    8, 10    the point, rounded
+ *   16        the place after it
+ */
+uint8_t kerambiu_receive_levels(uint8_t *state, size_t state_len, float re, float im, uint8_t *answer, size_t answer_len);
+
+/*
+ * Takes a squelched interval with its power: a gap of one interval, whatever the power, if it is finite.
+ *    1, 2, 4  the state, if it has all its bytes
+ *    7        fewer bytes than a state or an answer has
+ *   18        the power
+ *   16        the place after it
+ */
+uint8_t kerambiu_receive_squelch(uint8_t *state, size_t state_len, float power, uint8_t *answer, size_t answer_len);
+
+/*
+ * Takes a hole of n intervals: a gap of n, as kerambiu_receive_gap takes it.
+ *    1, 2, 4  the state, if it has all its bytes
+ *    7        fewer bytes than a state or an answer has
+ *    9        n
+ *   16        the place after it
+ */
+uint8_t kerambiu_receive_hole(uint8_t *state, size_t state_len, uint32_t n, uint8_t *answer, size_t answer_len);
+
+/*
  * Takes a block of points, re and im in turn, all or none: as one kerambiu_receive_point after the other. For each point a byte
  * is written into `line`, one into `plain` and a number into `distance`; lent bytes and numbers beyond the points stay as they
  * are.
@@ -128,6 +165,21 @@ uint8_t kerambiu_receive_gap(uint8_t *state, size_t state_len, uint32_t n, uint8
 #define KERAMBIU_ORIGIN 17
 uint8_t kerambiu_receive_points(uint8_t *state, size_t state_len, const int16_t *points, size_t points_len, uint8_t *line,
                                 size_t line_len, uint8_t *plain, size_t plain_len, uint32_t *distance, size_t distance_len);
+
+/*
+ * Takes a block of points in levels, re and im in turn, all or none: as one kerambiu_receive_levels after the other. The length
+ * of `levels` counts floats, two for each point. `line`, `plain` and `distance` become what kerambiu_receive_points writes for
+ * the points, rounded; lent bytes and numbers beyond the points stay as they are.
+ *    1, 2, 4  the state, if it has all its bytes
+ *    7        fewer bytes than a state has; an odd count of floats; in `line` or in `plain` fewer bytes than points; in
+ *             `distance` fewer numbers than points
+ *   18        any of the coordinates, also where one before it is out of range
+ *    8, 10    any of the points, rounded
+ *   16        the place after all of them
+ */
+uint8_t kerambiu_receive_level_points(uint8_t *state, size_t state_len, const float *levels, size_t levels_len, uint8_t *line,
+                                      size_t line_len, uint8_t *plain, size_t plain_len, uint32_t *distance,
+                                      size_t distance_len);
 
 /*
  * Opens a sender: writes the points of its training, re and im in turn, into the lent numbers from the offset on, and the state

@@ -1,5 +1,5 @@
 //! The line recorder's symbol codec in plain Rust, written from document 01
-//! (`01-scope.md`), requests of document 02
+//! (`01-scope.md`), requests of document 02
 //! (`02-change-requests.md`) and Recommendations V.27 ter (000) and V.32 (001).
 //!
 //! It is the outside implementation that the proved one is compared with.
@@ -11,6 +11,7 @@ pub mod limits;
 pub mod listing;
 pub mod mode;
 pub mod point;
+pub mod reading;
 pub mod receiver;
 pub mod refusal;
 pub mod rng;

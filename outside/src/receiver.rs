@@ -1,8 +1,9 @@
-//! The receiver (document 01, "Receiver"; document 02, R-1).
+//! The receiver (document 01, "Receiver"; document 02, R-1 and R-3).
 
 use crate::code;
 use crate::mode::Mode;
 use crate::point::{self, Decision, Point};
+use crate::reading::{self, Reading};
 use crate::refusal::{need, Refusal};
 use crate::scrambler::Scrambler;
 use crate::units::{BitCount, SquaredUnits, UnitIntervals};
@@ -60,15 +61,9 @@ pub fn fresh(mode: u8, role: u8) -> Result<Receiver, Refusal> {
 /// 10 and 16.
 pub fn receive_point(state: Receiver, re: i16, im: i16) -> Result<(Answer, Receiver), Refusal> {
     let (mode, scrambler) = checked(&state)?;
-    need(Point { re, im }.in_range(), Refusal::COORDINATE)?;
-    match point::decide(mode, re, im) {
-        Decision::NoSector => Err(Refusal::NO_SECTOR),
-        Decision::Origin => pass_gap(state, UnitIntervals(1)),
-        Decision::State {
-            state: decided,
-            distance,
-        } => take_state(state, mode, scrambler, decided, distance),
-    }
+    let point = Point { re, im };
+    need(point.in_range(), Refusal::COORDINATE)?;
+    take_point(state, mode, scrambler, point)
 }
 
 /// Takes a gap of n intervals. Refuses by 1, 2, 4, 9 and 16.
@@ -76,6 +71,24 @@ pub fn receive_gap(state: Receiver, n: u32) -> Result<(Answer, Receiver), Refusa
     checked(&state)?;
     need(n > 0, Refusal::EMPTY_GAP)?;
     pass_gap(state, UnitIntervals(n))
+}
+
+/// Takes a reading: a squelched interval is a gap of one, a hole a gap of its
+/// count. Refuses by 1, 2, 4, 18 and by the numbers of the point in units or of
+/// the gap.
+pub fn receive_reading(state: Receiver, reading: Reading) -> Result<(Answer, Receiver), Refusal> {
+    let (mode, scrambler) = checked(&state)?;
+    match reading {
+        Reading::Point(levels) => take_point(state, mode, scrambler, levels.rounded()?),
+        Reading::Squelch { power } => {
+            need(power.is_finite(), Refusal::NOT_FINITE)?;
+            pass_gap(state, UnitIntervals(1))
+        }
+        Reading::Hole { intervals } => {
+            need(intervals > 0, Refusal::EMPTY_GAP)?;
+            pass_gap(state, UnitIntervals(intervals))
+        }
+    }
 }
 
 /// Numbers 1, 2 and 4 of a handed-in receiver.
@@ -102,6 +115,25 @@ fn pass_gap(state: Receiver, length: UnitIntervals) -> Result<(Answer, Receiver)
         ..state
     };
     Ok((Answer::Gap(length), next))
+}
+
+/// A point in range; the origin is a gap of one interval.
+#[inline(always)]
+fn take_point(
+    state: Receiver,
+    mode: &Mode,
+    scrambler: Scrambler,
+    point: Point,
+) -> Result<(Answer, Receiver), Refusal> {
+    match point::decide(mode, point.re, point.im) {
+        Decision::State {
+            state: decided,
+            distance,
+        } => take_state(state, mode, scrambler, decided, distance),
+        Decision::Origin => pass_gap(state, UnitIntervals(1)),
+        // No square is twice a square, so no whole numbers come here.
+        Decision::NoSector => Err(Refusal::NO_SECTOR),
+    }
 }
 
 /// A decided point: the reference if there is none, else w line bits.
@@ -156,29 +188,48 @@ pub fn receive_points(
     distance: &mut [u32],
 ) -> Result<Receiver, Refusal> {
     let (mode, scrambler) = checked(&state)?;
-    let count = points.len() / 2;
-    let lent = line.len().min(plain.len()).min(distance.len());
-    let fits = points.len().is_multiple_of(2) && lent >= count;
-    need(fits, Refusal::LENT_NUMBERS)?;
+    need_lent(points.len(), line, plain, distance)?;
     let in_range = |x: &i16| (-16384..=16384).contains(x);
     need(points.iter().all(in_range), Refusal::COORDINATE)?;
     let left = (u32::MAX - state.place.0) as usize;
-    need(count <= left, Refusal::TOO_LONG)?;
+    need(points.len() / 2 <= left, Refusal::TOO_LONG)?;
     let mut next = state;
     let numbers = line.iter_mut().zip(plain.iter_mut()).zip(distance);
     for (pair, ((line, plain), distance)) in points.chunks_exact(2).zip(numbers) {
-        let (answer, after) = match point::decide(mode, pair[0], pair[1]) {
-            Decision::State { state, distance } => {
-                take_state(next, mode, scrambler, state, distance)?
-            }
-            Decision::Origin => pass_gap(next, UnitIntervals(1))?,
-            // No square is twice a square, so no whole numbers come here.
-            Decision::NoSector => return Err(Refusal::NO_SECTOR),
-        };
+        let (re, im) = (pair[0], pair[1]);
+        let (answer, after) = take_point(next, mode, scrambler, Point { re, im })?;
         (*line, *plain, *distance) = block_numbers(mode.width, answer);
         next = after;
     }
     Ok(next)
+}
+
+/// Takes points in levels, re and im in turn, all or none, and writes what
+/// `receive_points` writes for them in units. Refuses by 1, 2, 4, 7, 18, 8, 10
+/// and 16: number 18 of any point goes before number 8 of any.
+pub fn receive_level_points(
+    state: Receiver,
+    levels: &[f32],
+    line: &mut [u8],
+    plain: &mut [u8],
+    distance: &mut [u32],
+) -> Result<Receiver, Refusal> {
+    checked(&state)?;
+    need_lent(levels.len(), line, plain, distance)?;
+    let finite = |level: &f32| level.is_finite();
+    need(levels.iter().all(finite), Refusal::NOT_FINITE)?;
+    let units = levels.iter().map(|&level| reading::coordinate(level));
+    let points: Option<Vec<i16>> = units.collect();
+    let points = points.ok_or(Refusal::COORDINATE)?;
+    receive_points(state, &points, line, plain, distance)
+}
+
+/// Number 7 of a block: an odd count of numbers, or a lent part shorter than the
+/// points.
+fn need_lent(numbers: usize, line: &[u8], plain: &[u8], distance: &[u32]) -> Result<(), Refusal> {
+    let lent = line.len().min(plain.len()).min(distance.len());
+    let fits = numbers.is_multiple_of(2) && lent >= numbers / 2;
+    need(fits, Refusal::LENT_NUMBERS)
 }
 
 /// What a block has for a point: its line bits, its data bits, its distance.

@@ -1,8 +1,14 @@
-//! Refusal numbers (document 01, "Refusals, by whose doing").
+//! Refusal numbers (document 01, "Refusals, by whose doing"; document 02, R-3).
 
 /// The number of a refused call.
-#[derive(Clone, Copy, PartialEq, Eq, PartialOrd, Ord, Hash, Debug)]
+#[derive(Clone, Copy, PartialEq, Eq, Hash, Debug)]
 pub struct Refusal(pub u8);
+
+/// All numbers, those that go before others first. A number that a request adds
+/// stands where the request puts it: 18 after 7 and before 8.
+pub const ORDER: [u8; 18] = [
+    1, 2, 3, 4, 5, 6, 7, 18, 8, 9, 10, 11, 12, 13, 14, 15, 16, 17,
+];
 
 impl Refusal {
     /// Mode not 1 to 4.
@@ -19,6 +25,8 @@ impl Refusal {
     pub const BIT_COUNT: Refusal = Refusal(6);
     /// Lent numbers too few from the offset, or an offset past their end.
     pub const LENT_NUMBERS: Refusal = Refusal(7);
+    /// A NaN or infinite coordinate or power.
+    pub const NOT_FINITE: Refusal = Refusal(18);
     /// Coordinate out of range.
     pub const COORDINATE: Refusal = Refusal(8);
     /// A gap, or a lost count to append, of 0.
@@ -42,7 +50,7 @@ impl Refusal {
 }
 
 /// Refuses unless the condition is met. A call lists its needs in the order of
-/// their numbers, so that the lowest number that applies is given.
+/// numbers, so that of those that apply the first is given.
 pub fn need(met: bool, refusal: Refusal) -> Result<(), Refusal> {
     if met {
         Ok(())

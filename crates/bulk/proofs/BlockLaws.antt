@@ -3,6 +3,7 @@ use Prim.Native.Nat.{ℕ, zero, suc, _+_, _*_, _-_, _/_, _%_, _<_, _≤_}
 use mathlib.Core.Path.{_≡_, refl, sym, ap, _∙_, subst}
 use mathlib.Core.Bool.{Bool, true, false, _&&_, and-assoc}
 use mathlib.Core.List.{List, [], _∷_, map}
+use mathlib.Core.Logic.{⊎-elim}
 use native.Mathlib.Omega.{arith}
 use borrow.Author.Tests.{le-leb, lt-leb, leb-true}
 use lib.Dec.{T, eqb, leb, eqb→eq}
@@ -23,8 +24,9 @@ use Rattle.coding.specs.Rows.{rowIndex, withRow, Rows}
 use Rattle.deciding.proofs.DecideLaws.{Off}
 use Rattle.deciding.proofs.DistanceLaws.{sent-law}
 use Rattle.coding.proofs.RowLaws.{looked-up as row-looked-up}
-use Rattle.line.specs.Refusal.{need, accepted}
+use Rattle.line.specs.Refusal.{need, orNext, accepted}
 use Rattle.line.proofs.RefusalLaws.{need-met, need-rest, need-intro, next-first, next-rest, or-some}
+use Rattle.line.proofs.Tests.{lt-or-ge}
 use Rattle.line.proofs.TableLaws.{and-left, and-right, and-intro, is-true}
 use Rattle.line.proofs.PointLaws.{pairs-step, pairs-end, pairs-length, sent-round}
 use Rattle.deciding.proofs.RingLaws.{looked-up, origin-none}
@@ -45,7 +47,7 @@ use Rattle.bulk.specs.declared.Block.{Block}
 use Rattle.bulk.specs.declared.Block.the-variants.{Refused as NotTaken, Taken}
 use Rattle.bulk.specs.declared.Step.{Step}
 use Rattle.bulk.specs.Hearing.{step, stateStep, left, AsLong, Hearing, Holds, settledAt}
-use Rattle.bulk.specs.Block.{plainByte, answersTo, Parts, parts, wrote, Lent, sizes, lentOk, blockRefusal, numberOf, stateOf, Told, block, partsAfter, JustWhen, AllHeard}
+use Rattle.bulk.specs.Block.{Given, inUnits, pointsOf, plainByte, answersTo, Parts, parts, wrote, Lent, sizes, lentOk, blockRefusal, coordinateFault, placesOk, faultOf, FoundSo, numberOf, stateOf, Told, block, partsAfter, JustWhen, AllHeard}
 
 -- ONE POINT
 
@@ -139,51 +141,64 @@ accepted-one-by-one s (p ∷ ps) z i l =
 -- ONE BY ONE
 
 -- the numbers from 7 on, in their order
-module _ (s : Receiver) (zs : List ℤ) (n : Lent) where
+module _ (s : Receiver) (g : Given) (n : Lent) where
   abbrev room-number : ℕ
-  room-number = need (hasRoom s (length (pairs zs))) 16 0
+  room-number = need (hasRoom s (length (pointsOf g))) 16 0
 
   abbrev sector-number : ℕ
-  sector-number = need (every (λ p. inSector (decide (s .mode) p)) (pairs zs)) 10 room-number
+  sector-number = need (every (λ p. inSector (decide (s .mode) p)) (pointsOf g)) 10 room-number
 
   abbrev range-number : ℕ
-  range-number = need (every inRange (pairs zs)) 8 sector-number
+  range-number = need (every inRange (pointsOf g)) 8 sector-number
 
-  lent-is : ((eqb (length zs % 2) 0 && leb (length zs / 2) (n .line)) && leb (length zs / 2) (n .plain)) && leb (length zs / 2) (n .distance) ≡ lentOk zs n
-  unfolding lentOk
-  lent-is = rw (pairs-length zs)
+  pub lent-is : placesOk (length (g .numbers)) n ≡ lentOk g n
+  unfolding lentOk placesOk
+  lent-is = rw (pairs-length (g .numbers))
 
-  module _ (z : blockRefusal s zs n ≡ 0) where
+  module _ (z : blockRefusal s g n ≡ 0) where
     passes : stateRefusal s ≡ 0
     unfolding blockRefusal
     passes = next-first (stateRefusal s) _ z
 
-    lent : need (lentOk zs n) 7 range-number ≡ 0
+    lent : need (lentOk g n) 7 (need (g .finite) 18 range-number) ≡ 0
     unfolding blockRefusal
     lent = next-rest (stateRefusal s) _ z
 
-    in-range : range-number ≡ 0
-    in-range = need-rest (lentOk zs n) 6 _ lent
+    are-numbers : need (g .finite) 18 range-number ≡ 0
+    are-numbers = need-rest (lentOk g n) 6 _ lent
 
-    pub has-places : ((length zs / 2 ≤ n .line) × (length zs / 2 ≤ n .plain)) × (length zs / 2 ≤ n .distance)
+    in-range : range-number ≡ 0
+    in-range = need-rest (g .finite) 17 _ are-numbers
+
+    pub all-finite : T (g .finite)
+    all-finite = need-met (g .finite) 17 _ are-numbers
+
+    pub all-in-range : T (every inRange (pointsOf g))
+    all-in-range = need-met (every inRange (pointsOf g)) 7 _ in-range
+
+    places : T (placesOk (length (g .numbers)) n)
+    places = subst T (sym lent-is) (need-met (lentOk g n) 6 _ lent)
+
+    pub has-places : ((length (g .numbers) / 2 ≤ n .line) × (length (g .numbers) / 2 ≤ n .plain)) × (length (g .numbers) / 2 ≤ n .distance)
+    unfolding placesOk
     has-places =
-        let t : T (((eqb (length zs % 2) 0 && leb (length zs / 2) (n .line)) && leb (length zs / 2) (n .plain)) && leb (length zs / 2) (n .distance)) =
-        subst T (sym lent-is) (need-met (lentOk zs n) 6 _ lent) in
-        let u = and-left ((eqb (length zs % 2) 0 && leb (length zs / 2) (n .line)) && leb (length zs / 2) (n .plain)) (leb (length zs / 2) (n .distance)) t in
-        let v = and-left (eqb (length zs % 2) 0 && leb (length zs / 2) (n .line)) (leb (length zs / 2) (n .plain)) u in (
+        let k : ℕ = length (g .numbers) / 2 in
+        let even : Bool = eqb (length (g .numbers) % 2) 0 in
+        let u = and-left ((even && leb k (n .line)) && leb k (n .plain)) (leb k (n .distance)) places in
+        let v = and-left (even && leb k (n .line)) (leb k (n .plain)) u in (
           (
-            leb-true _ _ (is-true _ (and-right (eqb (length zs % 2) 0) (leb (length zs / 2) (n .line)) v)),
-            leb-true _ _ (is-true _ (and-right (eqb (length zs % 2) 0 && leb (length zs / 2) (n .line)) (leb (length zs / 2) (n .plain)) u)),
+            leb-true _ _ (is-true _ (and-right even (leb k (n .line)) v)),
+            leb-true _ _ (is-true _ (and-right (even && leb k (n .line)) (leb k (n .plain)) u)),
           ),
-          leb-true _ _ (is-true _ (and-right ((eqb (length zs % 2) 0 && leb (length zs / 2) (n .line)) && leb (length zs / 2) (n .plain)) (leb (length zs / 2) (n .distance)) t)),
+          leb-true _ _ (is-true _ (and-right ((even && leb k (n .line)) && leb k (n .plain)) (leb k (n .distance)) places)),
         )
 
     -- no single call of an accepted block is refused
-    pub one-by-one : EachAccepted s (map point (pairs zs))
+    pub one-by-one : EachAccepted s (map point (pointsOf g))
     unfolding hasRoom
     one-by-one =
-        accepted-one-by-one s (pairs zs) passes (need-met (every inRange (pairs zs)) 7 _ in-range)
-        (leb-true _ _ (is-true _ (need-met (hasRoom s (length (pairs zs))) 15 0 (need-rest (every (λ p. inSector (decide (s .mode) p)) (pairs zs)) 9 _ (need-rest (every inRange (pairs zs)) 7 _ in-range)))))
+        accepted-one-by-one s (pointsOf g) passes all-in-range
+        (leb-true _ _ (is-true _ (need-met (hasRoom s (length (pointsOf g))) 15 0 (need-rest (every (λ p. inSector (decide (s .mode) p)) (pointsOf g)) 9 _ (need-rest (every inRange (pointsOf g)) 7 _ in-range)))))
 
 each-in-range : (s : Receiver) (ps : List Point) → EachAccepted s (map point ps) → T (every inRange ps)
 unfolding eventRefusal
@@ -198,19 +213,20 @@ each-has-place s (p ∷ ps) l f =
     let i = each-has-place (next s (point p)) ps (omega arith) (f .1) in
     omega arith
 
--- and where none is, the state passes and the bytes suffice, the block is accepted. The place is a u32.
-pub at-once : (s : Receiver) (zs : List ℤ) (n : Lent) → stateRefusal s ≡ 0 → s .place .0 ≤ 4294967295 → T (lentOk zs n) → EachAccepted s (map point (pairs zs)) → blockRefusal s zs n ≡ 0
+-- and where none is, the state passes, the bytes suffice and all is finite, the block is accepted. The place is a u32.
+pub at-once : (s : Receiver) (g : Given) (n : Lent) → stateRefusal s ≡ 0 → s .place .0 ≤ 4294967295 → T (lentOk g n) → T (g .finite) → EachAccepted s (map point (pointsOf g)) → blockRefusal s g n ≡ 0
 unfolding blockRefusal hasRoom
-at-once s zs n z l t f =
-    rw z (need-intro (lentOk zs n) 7 _ t (need-intro (every inRange (pairs zs)) 8 _ (each-in-range s (pairs zs) f)
-    (need-intro (every (λ p. inSector (decide (s .mode) p)) (pairs zs)) 10 _ (each-in-a-sector (s .mode) (pairs zs))
-    (rw (le-leb (s .place .0 + length (pairs zs)) 4294967295 (each-has-place s (pairs zs) l f))))))
+at-once s g n z l t u f =
+    rw z (need-intro (lentOk g n) 7 _ t (need-intro (g .finite) 18 _ u (need-intro (every inRange (pointsOf g)) 8 _ (each-in-range s (pointsOf g) f)
+    (need-intro (every (λ p. inSector (decide (s .mode) p)) (pointsOf g)) 10 _ (each-in-a-sector (s .mode) (pointsOf g))
+    (rw (le-leb (s .place .0 + length (pointsOf g)) 4294967295 (each-has-place s (pointsOf g) l f)))))))
 
 pub just-when : JustWhen
-just-when s zs n l = (λ z. (passes s zs n z, need-met (lentOk zs n) 6 _ (lent s zs n z), one-by-one s zs n z), λ h. at-once s zs n (h .0) l (h .1) (h .2))
+just-when s g n l =
+    (λ z. (passes s g n z, need-met (lentOk g n) 6 _ (lent s g n z), all-finite s g n z, one-by-one s g n z), λ h. at-once s g n (h .0) l (h .1) (h .2) (h .3))
 
 pub all-heard : AllHeard
-all-heard s zs n z = heard-all s (map point (pairs zs)) (one-by-one s zs n z)
+all-heard s g n z = heard-all s (map point (pointsOf g)) (one-by-one s g n z)
 
 -- THE WAYS OF THE CODE
 
@@ -222,15 +238,54 @@ each-of (x ∷ []) h = absurd (omega arith)
 each-of (x ∷ y ∷ zs) h =
     sym (and-assoc (coordinateIn x) (coordinateIn y) (coordinatesIn zs)) ∙ ap (λ (t : Bool). (coordinateIn x && coordinateIn y) && t) (each-of zs (omega arith))
 
+-- the numbers in the code's order
+module _ (s : Receiver) (g : Given) (n : Lent) where
+  even-count : placesOk (length (g .numbers)) n ≡ true → length (g .numbers) % 2 ≡ 0
+  unfolding placesOk
+  even-count e =
+      let k : ℕ = length (g .numbers) / 2 in
+      let even : Bool = eqb (length (g .numbers) % 2) 0 in
+      eqb→eq _ 0 (and-left even (leb k (n .line)) (and-left (even && leb k (n .line)) (leb k (n .plain)) (and-left ((even && leb k (n .line)) && leb k (n .plain)) (leb k (n .distance)) (subst T (sym e) tt))))
+
+  from-18-on : length (g .numbers) % 2 ≡ 0 → orNext (coordinateFault g) (need (hasRoom s (length (g .numbers) / 2)) 16 0) ≡ need (g .finite) 18 (range-number s g n)
+  unfolding coordinateFault
+  from-18-on e =
+      rw (each-of (g .numbers) e, ← pairs-length (g .numbers), is-true (every (λ p. inSector (decide (s .mode) p)) (pointsOf g)) (each-in-a-sector (s .mode) (pointsOf g)))
+      (by (g .finite) (every inRange (pointsOf g)) (room-number s g n))
+    where
+      by : (a b : Bool) (k : ℕ) → orNext (need a 18 (need b 8 0)) k ≡ need a 18 (need b 8 k)
+      by true true k = refl
+      by true false k = refl
+      by false b k = refl
+
+  pub fault-law : faultOf s (length (g .numbers)) (coordinateFault g) n ≡ blockRefusal s g n
+  unfolding faultOf blockRefusal
+  fault-law = ap (orNext (stateRefusal s)) (by (placesOk (length (g .numbers)) n) refl ∙ ap (λ (t : Bool). need t 7 (need (g .finite) 18 (range-number s g n))) lent-is′)
+    where
+      lent-is′ : placesOk (length (g .numbers)) n ≡ lentOk g n
+      lent-is′ = lent-is s g n
+
+      by : (t : Bool) → placesOk (length (g .numbers)) n ≡ t → need t 7 (orNext (coordinateFault g) (need (hasRoom s (length (g .numbers) / 2)) 16 0)) ≡ need t 7 (need (g .finite) 18 (range-number s g n))
+      by true e = from-18-on (even-count e)
+      by false e = refl
+
+  -- each coordinate of an accepted block is in range
+  pub each-coordinate : blockRefusal s g n ≡ 0 → T (coordinatesIn (g .numbers))
+  each-coordinate z = subst T (sym (each-of (g .numbers) (even-count (is-true _ (places s g n z))))) (all-in-range s g n z)
+
+pub found-so : FoundSo
+found-so s g n = fault-law s g n
+
+-- of whole numbers, as the code finds them one after the other
 module _ (s : Receiver) (zs : List ℤ) (n : Lent) (f : ℕ) (e : f ≡ stateRefusal s) where
-  pub fault-state : (f ≡ 0 → ⊥) → f ≡ blockRefusal s zs n
-  unfolding blockRefusal
+  pub fault-state : (f ≡ 0 → ⊥) → f ≡ blockRefusal s (inUnits zs) n
+  unfolding blockRefusal placesOk
   fault-state h = e ∙ or-some (stateRefusal s) _ (λ z. h (e ∙ z))
 
   module _ (z : f ≡ 0) (lent : Bool) (q : lent ≡ ((eqb (length zs % 2) 0 && leb (length zs / 2) (n .line)) && leb (length zs / 2) (n .plain)) && leb (length zs / 2) (n .distance)) where
-    pub fault-lent : lent ≡ false → 7 ≡ blockRefusal s zs n
-    unfolding blockRefusal
-    fault-lent h = rw (← e, z, ← lent-is s zs n, ← q, h)
+    pub fault-lent : lent ≡ false → 7 ≡ blockRefusal s (inUnits zs) n
+    unfolding blockRefusal placesOk
+    fault-lent h = rw (← e, z, ← lent-is s (inUnits zs) n, ← q, h)
 
     module _ (h : lent ≡ true) (r : Bool) (c : r ≡ coordinatesIn zs) where
       i : r ≡ every inRange (pairs zs)
@@ -241,70 +296,83 @@ module _ (s : Receiver) (zs : List ℤ) (n : Lent) (f : ℕ) (e : f ≡ stateRef
           let lent-so : T (((even && line) && plain) && leb (length zs / 2) (n .distance)) = subst T (sym (sym q ∙ h)) tt in
           c ∙ each-of zs (eqb→eq (length zs % 2) 0 (and-left even line (and-left (even && line) plain (and-left ((even && line) && plain) (leb (length zs / 2) (n .distance)) lent-so))))
 
-      pub fault-range : r ≡ false → 8 ≡ blockRefusal s zs n
-      unfolding blockRefusal
-      fault-range k = rw (← e, z, ← lent-is s zs n, ← q, h, ← i, k)
+      pub fault-range : r ≡ false → 8 ≡ blockRefusal s (inUnits zs) n
+      unfolding blockRefusal placesOk
+      fault-range k = rw (← e, z, ← lent-is s (inUnits zs) n, ← q, h, ← i, k)
 
       module _ (k : r ≡ true) where
-        room-last : room-number s zs n ≡ blockRefusal s zs n
-        unfolding blockRefusal
-        room-last = rw (← e, z, ← lent-is s zs n, ← q, h, ← i, k, is-true (every (λ p. inSector (decide (s .mode) p)) (pairs zs)) (each-in-a-sector (s .mode) (pairs zs)))
+        room-last : room-number s (inUnits zs) n ≡ blockRefusal s (inUnits zs) n
+        unfolding blockRefusal placesOk
+        room-last = rw (← e, z, ← lent-is s (inUnits zs) n, ← q, h, ← i, k, is-true (every (λ p. inSector (decide (s .mode) p)) (pairs zs)) (each-in-a-sector (s .mode) (pairs zs)))
 
-        pub fault-room : 4294967295 - s .place .0 < length zs / 2 → 16 ≡ blockRefusal s zs n
+        pub fault-room : 4294967295 - s .place .0 < length zs / 2 → 16 ≡ blockRefusal s (inUnits zs) n
         unfolding hasRoom
         fault-room l =
             let l2 = pairs-length zs in
             ap (λ (t : Bool). need t 16 0) (sym (lt-leb (s .place .0 + length (pairs zs)) 4294967295 (omega arith))) ∙ room-last
 
-        pub fault-none : s .place .0 ≤ 4294967295 → length zs / 2 ≤ 4294967295 - s .place .0 → 0 ≡ blockRefusal s zs n
+        pub fault-none : s .place .0 ≤ 4294967295 → length zs / 2 ≤ 4294967295 - s .place .0 → 0 ≡ blockRefusal s (inUnits zs) n
         unfolding hasRoom
         fault-none u l =
             let l2 = pairs-length zs in
             ap (λ (t : Bool). need t 16 0) (sym (le-leb (s .place .0 + length (pairs zs)) 4294967295 (omega arith))) ∙ room-last
 
+-- and all at once
+pub room-is : (s : Receiver) (n : ℕ) → s .place .0 ≤ 4294967295 → leb n (4294967295 - s .place .0) ≡ hasRoom s n
+unfolding hasRoom
+room-is s n l =
+    ⊎-elim (λ h. lt-leb n (4294967295 - s .place .0) h ∙ sym (lt-leb (s .place .0 + n) 4294967295 (omega arith)))
+    (λ h. le-leb n (4294967295 - s .place .0) h ∙ sym (le-leb (s .place .0 + n) 4294967295 (omega arith))) (lt-or-ge (4294967295 - s .place .0) n)
+
+-- the same from its parts: the number of the place, what comes after number 7, the state's, what comes after it, all
+pub fault-found : (s : Receiver) (count f : ℕ) (n : Lent) (room late state rest all : ℕ) → s .place .0 ≤ 4294967295 → room ≡ need (leb (count / 2) (4294967295 - s .place .0)) 16 0 → late ≡ orNext f room
+    → state ≡ stateRefusal s → rest ≡ need (((eqb (count % 2) 0 && leb (count / 2) (n .line)) && leb (count / 2) (n .plain)) && leb (count / 2) (n .distance)) 7 late → all ≡ orNext state rest → all ≡ faultOf s count f n
+unfolding faultOf placesOk
+fault-found s count f n room late state rest all l a b c d e = rw (e, d, c, b, a, room-is s (count / 2) l)
+
 -- what the answer says
-told : (s : Receiver) (zs : List ℤ) (n : Lent) → Told s zs n (block s zs n)
+told : (s : Receiver) (g : Given) (n : Lent) → Told s g n (block s g n)
 unfolding block
-told s zs n = record { number-is = number (blockRefusal s zs n); state-is = state (blockRefusal s zs n) }
+told s g n = record { number-is = number (blockRefusal s g n); state-is = state (blockRefusal s g n) }
   where
-    number : (n : ℕ) → numberOf (accepted n (Taken (after s (map point (pairs zs)))) (NotTaken n)) ≡ n
+    number : (n : ℕ) → numberOf (accepted n (Taken (after s (map point (pointsOf g)))) (NotTaken n)) ≡ n
     number zero = refl
     number (suc n) = refl
 
-    state : (n : ℕ) → stateOf s (accepted n (Taken (after s (map point (pairs zs)))) (NotTaken n)) ≡ accepted n (after s (map point (pairs zs))) s
+    state : (n : ℕ) → stateOf s (accepted n (Taken (after s (map point (pointsOf g)))) (NotTaken n)) ≡ accepted n (after s (map point (pointsOf g))) s
     state zero = refl
     state (suc n) = refl
 
 -- the call
-module _ (s : Receiver) (zs : List ℤ) (b : Parts) where
+module _ (s : Receiver) (g : Given) (b : Parts) where
   abbrev Done : Block → Parts → Type 0
-  Done r c = (r ≡ block s zs (sizes b)) × (c ≡ partsAfter s zs b)
+  Done r c = (r ≡ block s g (sizes b)) × (c ≡ partsAfter s g b)
 
-  with-told : (r : Block) (c : Parts) → Done r c → Done r c × Told s zs (sizes b) r
-  with-told r c d = (d, subst (Told s zs (sizes b)) (sym (d .0)) (told s zs (sizes b)))
+  with-told : (r : Block) (c : Parts) → Done r c → Done r c × Told s g (sizes b) r
+  with-told r c d = (d, subst (Told s g (sizes b)) (sym (d .0)) (told s g (sizes b)))
 
-  pub refused-law : (f : ℕ) → f ≡ blockRefusal s zs (sizes b) → (f ≡ 0 → ⊥) → Done (NotTaken f) b × Told s zs (sizes b) (NotTaken f)
+  pub refused-law : (f : ℕ) → f ≡ blockRefusal s g (sizes b) → (f ≡ 0 → ⊥) → Done (NotTaken f) b × Told s g (sizes b) (NotTaken f)
   unfolding block partsAfter
   refused-law zero e h = absurd (h refl)
   refused-law (suc n) e h =
       with-told (NotTaken (suc n)) b (
-        ap (λ (k : ℕ). accepted k (Taken (after s (map point (pairs zs)))) (NotTaken k)) e,
-        ap (λ (k : ℕ). accepted k (wrote b 0 (answersTo s (pairs zs))) b) e,
+        ap (λ (k : ℕ). accepted k (Taken (after s (map point (pointsOf g)))) (NotTaken k)) e,
+        ap (λ (k : ℕ). accepted k (wrote b 0 (answersTo s (pointsOf g))) b) e,
       )
 
-  pub taken-law : (f : ℕ) (t : Receiver) (c : Parts) → f ≡ blockRefusal s zs (sizes b) → f ≡ 0 → t ≡ after s (map point (pairs zs))
-      → c ≡ wrote b 0 (answersTo s (pairs zs)) → Done (Taken t) c × Told s zs (sizes b) (Taken t)
+  pub taken-law : (f : ℕ) (t : Receiver) (c : Parts) → f ≡ blockRefusal s g (sizes b) → f ≡ 0 → t ≡ after s (map point (pointsOf g))
+      → c ≡ wrote b 0 (answersTo s (pointsOf g)) → Done (Taken t) c × Told s g (sizes b) (Taken t)
   unfolding block partsAfter
   taken-law f t c e z et ec =
-      let q : 0 ≡ blockRefusal s zs (sizes b) = sym z ∙ e in
+      let q : 0 ≡ blockRefusal s g (sizes b) = sym z ∙ e in
       with-told (Taken t) c (
-        ap Taken et ∙ ap (λ (k : ℕ). accepted k (Taken (after s (map point (pairs zs)))) (NotTaken k)) q,
-        ec ∙ ap (λ (k : ℕ). accepted k (wrote b 0 (answersTo s (pairs zs))) b) q,
+        ap Taken et ∙ ap (λ (k : ℕ). accepted k (Taken (after s (map point (pointsOf g)))) (NotTaken k)) q,
+        ec ∙ ap (λ (k : ℕ). accepted k (wrote b 0 (answersTo s (pointsOf g))) b) q,
       )
 
   -- all three parts hold a place for each point
-  pub holds : blockRefusal s zs (sizes b) ≡ 0 → Holds zs b
-  holds z = let h = has-places s zs (sizes b) z in record { line = h .0 .0; plain = h .0 .1; distance = h .1 }
+  pub holds : blockRefusal s g (sizes b) ≡ 0 → Holds (g .numbers) b
+  holds z = let h = has-places s g (sizes b) z in record { line = h .0 .0; plain = h .0 .1; distance = h .1 }
 
 -- THE PASS THAT READS
 

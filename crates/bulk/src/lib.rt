@@ -8,7 +8,7 @@ ghost use Rattle.coding.specs.Rows.{Rows};
 ghost use Rattle.receiver.specs.Receiver.{receiver, point, lost, refusal, answer, forgotten, next};
 ghost use Rattle.receiver.specs.Calls.{after, EachAccepted};
 ghost use Rattle.bulk.specs.Hearing.{step, stateStep, Hearing, Holds, settledAt};
-ghost use Rattle.bulk.specs.Block.{answersTo, parts, wrote, sizes, blockRefusal, Told, block, partsAfter};
+ghost use Rattle.bulk.specs.Block.{inUnits, answersTo, parts, wrote, sizes, blockRefusal, Told, block, partsAfter};
 use deciding::SquaredUnits;
 use receiver::Intervals;
 use receiver::Receiver;
@@ -240,7 +240,7 @@ fn hear_all(
 // The number that refuses a block with so much lent for line bits, data bits and distances, 0 for none. Number 10 is not looked for:
 // no point is in no sector.
 fn block_fault(s: Receiver, points: &[i16], line: usize, plain: usize, distance: usize) -> u8
-    ensures { λ r. ⌜ r ≡ blockRefusal s (now (points .entry)) (record { line = line; plain = plain; distance = distance }) ⌝ }
+    ensures { λ r. ⌜ r ≡ blockRefusal s (inUnits (now (points .entry))) (record { line = line; plain = plain; distance = distance }) ⌝ }
 {
     let fault = receiver::state_fault(s);
     if fault != 0 {
@@ -259,7 +259,7 @@ fn block_fault(s: Receiver, points: &[i16], line: usize, plain: usize, distance:
     7
 }
 
-// Takes points, re and im in turn, all or none, and writes the two bytes and the squared distance of each.
+// Takes points in units, re and im in turn, all or none, and writes the two bytes and the squared distance of each.
 pub fn receive_points(
     s: Receiver,
     points: &[i16],
@@ -267,9 +267,9 @@ pub fn receive_points(
     plain: &mut [u8],
     distance: &mut [u32],
 ) -> Block
-    ensures { λ r. ⌜ (r ≡ block s (now (points .entry)) (sizes (parts (now (line .entry)) (now (plain .entry)) (now (distance .entry)))))
-        × (parts (now (line .exit)) (now (plain .exit)) (now (distance .exit)) ≡ partsAfter s (now (points .entry)) (parts (now (line .entry)) (now (plain .entry)) (now (distance .entry)))) ⌝ }
-    ensures { λ r. ⌜ Told s (now (points .entry)) (sizes (parts (now (line .entry)) (now (plain .entry)) (now (distance .entry)))) r ⌝ }
+    ensures { λ r. ⌜ (r ≡ block s (inUnits (now (points .entry))) (sizes (parts (now (line .entry)) (now (plain .entry)) (now (distance .entry)))))
+        × (parts (now (line .exit)) (now (plain .exit)) (now (distance .exit)) ≡ partsAfter s (inUnits (now (points .entry))) (parts (now (line .entry)) (now (plain .entry)) (now (distance .entry)))) ⌝ }
+    ensures { λ r. ⌜ Told s (inUnits (now (points .entry))) (sizes (parts (now (line .entry)) (now (plain .entry)) (now (distance .entry)))) r ⌝ }
 {
     let fault = block_fault(s, points, line.len(), plain.len(), distance.len());
     if fault != 0 {

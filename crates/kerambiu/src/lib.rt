@@ -1,5 +1,7 @@
 // The calls for C and Rust, by their exported names. What each does is in the crates that it calls; include/kerambiu.h declares them.
+use levels::Levels;
 use listing::Listed;
+use readings::Reading;
 use store::Readout;
 use summing::Summed;
 ghost use mathlib.Core.Path.{_≡_};
@@ -10,8 +12,10 @@ ghost use Rattle.store.specs.Reads.{readNumber, readCount, readResult};
 ghost use Rattle.track.specs.Append.{makeNumber, makeResult, lostNumber, lostResult, pointNumber, pointResult};
 ghost use Rattle.track.specs.Points.{pointsNumber, pointsResult};
 ghost use Rattle.listing.specs.Text.{text, listNumber, listResult};
-ghost use Rattle.bulk.specs.Block.{parts};
+ghost use Rattle.readings.specs.Reading.{levels, squelch, hole};
+ghost use Rattle.bulk.specs.Block.{inUnits, inLevels, parts};
 ghost use Rattle.lent_receiver.specs.Receiving.{freshNumber, freshState, callNumber, callState, callAnswer, blockNumber, blockState, blockParts};
+ghost use Rattle.lent_readings.specs.Reading.{readingNumber, readingState, readingBytes};
 ghost use Rattle.lent_sender.specs.Sending.{openNumber, openState, openOut, sendNumber, sendState, sendOut};
 ghost use Rattle.kerambiu.specs.Summing.{sumsNumber, sumsResult};
 ghost use Rattle.kerambiu.specs.Counted.{countedNumber, countedOut, countedCounts};
@@ -48,9 +52,9 @@ pub extern "C" fn kerambiu_receive_points(
     plain: &mut [u8],
     distance: &mut [u32],
 ) -> u8
-    ensures { λ r. ⌜ (r ≡ blockNumber (now (state .entry)) (now (points .entry)) (parts (now (line .entry)) (now (plain .entry)) (now (distance .entry))))
-        × (now (state .exit) ≡ blockState (now (state .entry)) (now (points .entry)) (parts (now (line .entry)) (now (plain .entry)) (now (distance .entry))))
-        × (parts (now (line .exit)) (now (plain .exit)) (now (distance .exit)) ≡ blockParts (now (state .entry)) (now (points .entry)) (parts (now (line .entry)) (now (plain .entry)) (now (distance .entry)))) ⌝ }
+    ensures { λ r. ⌜ (r ≡ blockNumber (now (state .entry)) (inUnits (now (points .entry))) (parts (now (line .entry)) (now (plain .entry)) (now (distance .entry))))
+        × (now (state .exit) ≡ blockState (now (state .entry)) (inUnits (now (points .entry))) (parts (now (line .entry)) (now (plain .entry)) (now (distance .entry))))
+        × (parts (now (line .exit)) (now (plain .exit)) (now (distance .exit)) ≡ blockParts (now (state .entry)) (inUnits (now (points .entry))) (parts (now (line .entry)) (now (plain .entry)) (now (distance .entry)))) ⌝ }
 {
     lent_receiver::receive_points(state, points, line, plain, distance)
 }
@@ -61,6 +65,53 @@ pub extern "C" fn kerambiu_receive_gap(state: &mut [u8], n: u32, answer: &mut [u
     ensures { λ r. ⌜ (r ≡ callNumber (now (state .entry)) (now (answer .entry)) (gap n)) × (now (state .exit) ≡ callState (now (state .entry)) (now (answer .entry)) (gap n)) × (now (answer .exit) ≡ callAnswer (now (state .entry)) (now (answer .entry)) (gap n)) ⌝ }
 {
     lent_receiver::receive_gap(state, n, answer)
+}
+
+// ---- the demodulator's readings
+
+// A point in levels: 0, or the number that refuses it.
+#[no_mangle]
+pub extern "C" fn kerambiu_receive_levels(
+    state: &mut [u8],
+    re: f32,
+    im: f32,
+    answer: &mut [u8],
+) -> u8
+    ensures { λ r. ⌜ (r ≡ readingNumber (now (state .entry)) (now (answer .entry)) (levels (record { re = re; im = im }))) × (now (state .exit) ≡ readingState (now (state .entry)) (now (answer .entry)) (levels (record { re = re; im = im }))) × (now (answer .exit) ≡ readingBytes (now (state .entry)) (now (answer .entry)) (levels (record { re = re; im = im }))) ⌝ }
+{
+    lent_readings::receive_reading(state, Reading::Point(Levels { re, im }), answer)
+}
+
+// A squelched interval with its power: 0, or the number that refuses it.
+#[no_mangle]
+pub extern "C" fn kerambiu_receive_squelch(state: &mut [u8], power: f32, answer: &mut [u8]) -> u8
+    ensures { λ r. ⌜ (r ≡ readingNumber (now (state .entry)) (now (answer .entry)) (squelch power)) × (now (state .exit) ≡ readingState (now (state .entry)) (now (answer .entry)) (squelch power)) × (now (answer .exit) ≡ readingBytes (now (state .entry)) (now (answer .entry)) (squelch power)) ⌝ }
+{
+    lent_readings::receive_reading(state, Reading::Squelch(power), answer)
+}
+
+// A hole of n intervals: 0, or the number that refuses it.
+#[no_mangle]
+pub extern "C" fn kerambiu_receive_hole(state: &mut [u8], n: u32, answer: &mut [u8]) -> u8
+    ensures { λ r. ⌜ (r ≡ readingNumber (now (state .entry)) (now (answer .entry)) (hole n)) × (now (state .exit) ≡ readingState (now (state .entry)) (now (answer .entry)) (hole n)) × (now (answer .exit) ≡ readingBytes (now (state .entry)) (now (answer .entry)) (hole n)) ⌝ }
+{
+    lent_readings::receive_reading(state, Reading::Hole(n), answer)
+}
+
+// Points in levels, re and im in turn, all or none: 0, or the number that refuses them.
+#[no_mangle]
+pub extern "C" fn kerambiu_receive_level_points(
+    state: &mut [u8],
+    levels: &[f32],
+    line: &mut [u8],
+    plain: &mut [u8],
+    distance: &mut [u32],
+) -> u8
+    ensures { λ r. ⌜ (r ≡ blockNumber (now (state .entry)) (inLevels (now (levels .entry))) (parts (now (line .entry)) (now (plain .entry)) (now (distance .entry))))
+        × (now (state .exit) ≡ blockState (now (state .entry)) (inLevels (now (levels .entry))) (parts (now (line .entry)) (now (plain .entry)) (now (distance .entry))))
+        × (parts (now (line .exit)) (now (plain .exit)) (now (distance .exit)) ≡ blockParts (now (state .entry)) (inLevels (now (levels .entry))) (parts (now (line .entry)) (now (plain .entry)) (now (distance .entry)))) ⌝ }
+{
+    lent_receiver::receive_levels(state, levels, line, plain, distance)
 }
 
 // ---- the sender's calls

@@ -10,7 +10,7 @@ use lib.Seq.{sets}
 use Rattle.line.specs.Refusal.{orNext, accepted}
 use Rattle.octets.specs.Number.{u32}
 use Rattle.octets.proofs.Numbers.{quarters}
-use Rattle.octets.proofs.Sets.{getD-sets-in}
+use Rattle.line.proofs.Sets.{getD-sets-in}
 use Rattle.scrambler.specs.declared.Register.{Register}
 use Rattle.lent.specs.State.{registerIn, clear, stateOut, makingNumber}
 

@@ -6,12 +6,10 @@ use mathlib.Core.List.{List, map}
 use native.Mathlib.Omega.{arith}
 use borrow.Author.Tests.{le-leb, lt-leb}
 use lib.Dec.{leb, ltb, eqb}
-use lib.IntN.{ℤ}
 use lib.ListN.{length, getD}
 use lib.Seq.{sets}
 use Rattle.deciding.specs.declared.SquaredUnits.{SquaredUnits}
 use Rattle.line.specs.declared.Point.{Point}
-use Rattle.line.specs.Point.{pairs}
 use Rattle.deciding.specs.Decide.{Region, State, Origin, NoSector, decide}
 use Rattle.deciding.specs.Distance.{measured, decision}
 use Rattle.deciding.proofs.SectorLaws.{never-no-sector}
@@ -26,17 +24,17 @@ use Rattle.receiver.specs.declared.Outcome.the-variants.{Refused, Referenced, B
 use Rattle.receiver.specs.declared.Started.{Started}
 use Rattle.receiver.specs.declared.Started.the-variants.{Refused as NotStarted, Ready}
 use Rattle.line.specs.Refusal.{modeRefusal}
-use Rattle.receiver.specs.Receiver.{Event, point, gap, freshReceiver, refusal, stateNext, pointNext, eventNext, next}
+use Rattle.receiver.specs.Receiver.{Event, point, gap, freshReceiver, stateRefusal, refusal, stateNext, pointNext, eventNext, next}
 use Rattle.receiver.specs.Outcome.{stateOutcome, gapOutcome, pointOutcome, eventOutcome, outcome, numberOf as startedNumber, Made, started}
 use Rattle.receiver.specs.Calls.{after}
 use Rattle.bulk.specs.declared.Block.{Block}
 use Rattle.bulk.specs.declared.Block.the-variants.{Refused as NotTaken, Taken}
-use Rattle.bulk.specs.Block.{Parts, sizes, blockRefusal, numberOf, Told, block, partsAfter}
+use Rattle.bulk.specs.Block.{Given, pointsOf, Parts, sizes, blockRefusal, numberOf, Told, block, partsAfter}
 use Rattle.octets.specs.Number.{u32}
 use Rattle.lent.specs.State.{stateOut}
 use Rattle.lent.proofs.StateLaws.{making-short, making-done}
-use Rattle.lent_receiver.specs.Receiving.{referenceIn, receiverIn, present, stateByte, receiverOut, answerBytes, answerOut, freshNumber, freshState, atMost7, callNumber, callState, callAnswer, blockNumber, blockState, blockParts}
-use Rattle.lent_receiver.specs.Handing.{numberOut, stateAfter, NoPoint, handedNumber, handedState, handedAnswer}
+use Rattle.lent_receiver.specs.Receiving.{referenceIn, receiverIn, present, stateByte, receiverOut, answerBytes, answerOut, freshNumber, freshState, atMost7, callNumber, callState, callAnswer, blockNumber, blockState, blockParts, stateNumber}
+use Rattle.lent_receiver.specs.Handing.{numberOut, stateAfter, NoPoint, handedNumber, handedState, handedAnswer, blockAfter}
 
 -- THE BYTES OF A STATE
 
@@ -184,39 +182,43 @@ module _ (state answer : List ℕ) (e : Event) where
 
 -- MANY POINTS
 
--- the bytes that a block leaves
-abbrev blockAfter : Block → List ℕ → List ℕ
-blockAfter (NotTaken n) b = b
-blockAfter (Taken t) b = sets b 0 (receiverOut t)
-
 block-leaves : (n : ℕ) (t : Receiver) (b : List ℕ) → blockAfter (accepted n (Taken t) (NotTaken n)) b ≡ accepted n (sets b 0 (receiverOut t)) b
 block-leaves zero t b = refl
 block-leaves (suc n) t b = refl
 
-module _ (state : List ℕ) (zs : List ℤ) (b : Parts) where
+-- what the code finds of a block
+module _ (state : List ℕ) (r : Block) where
+  pub given-taken : (t : Receiver) (st : List ℕ) → r ≡ Taken t → st ≡ sets state 0 (receiverOut t) → (0 ≡ numberOf r) × (st ≡ blockAfter r state)
+  given-taken t st is u = (sym (ap numberOf is), u ∙ sym (ap (λ (d : Block). blockAfter d state) is))
+
+module _ (state : List ℕ) (g : Given) (b : Parts) where
   abbrev Took : ℕ → List ℕ → Parts → Type 0
-  Took r st c = (r ≡ blockNumber state zs b) × (st ≡ blockState state zs b) × (c ≡ blockParts state zs b)
+  Took r st c = (r ≡ blockNumber state g b) × (st ≡ blockState state g b) × (c ≡ blockParts state g b)
 
   pub block-short : length state < 16 → Took 7 state b
   unfolding blockNumber blockState blockParts
   block-short h = let f : leb 16 (length state) ≡ false = lt-leb _ _ h in (rw f, rw f, rw f)
 
-  module _ (s : Receiver) (h : 16 ≤ length state) (e : s ≡ receiverIn state) (r : Block) (c : Parts)
-      (q : (r ≡ block s zs (sizes b)) × (c ≡ partsAfter s zs b)) (k : Told s zs (sizes b) r) where
-    took : (n : ℕ) (st : List ℕ) → n ≡ numberOf r → st ≡ blockAfter r state → Took n st c
-    unfolding block blockNumber blockState blockParts
-    took n st x y =
-        rw (le-leb 16 (length state) h, ← e) (
-          x ∙ k .number-is,
-          y ∙ ap (λ (d : Block). blockAfter d state) (q .0) ∙ block-leaves (blockRefusal s zs (sizes b)) (after s (map point (pairs zs))) state,
-          q .1,
-        )
+  pub block-done : (s : Receiver) (r : Block) (n : ℕ) (st : List ℕ) (c : Parts) → 16 ≤ length state → s ≡ receiverIn state → (r ≡ block s g (sizes b)) × (c ≡ partsAfter s g b) → Told s g (sizes b) r
+      → (n ≡ numberOf r) × (st ≡ blockAfter r state) → Took n st c
+  unfolding block blockNumber blockState blockParts
+  block-done s r n st c h e q k w =
+      rw (le-leb 16 (length state) h, ← e) (
+        w .0 ∙ k .number-is,
+        w .1 ∙ ap (λ (d : Block). blockAfter d state) (q .0) ∙ block-leaves (blockRefusal s g (sizes b)) (after s (map point (pointsOf g))) state,
+        q .1,
+      )
 
-    pub block-refused : (n : ℕ) → r ≡ NotTaken n → Took n state c
-    block-refused n is = took n state (sym (ap numberOf is)) (sym (ap (λ (d : Block). blockAfter d state) is))
+-- THE STATE ALONE
 
-    pub block-taken : (t : Receiver) (st : List ℕ) → r ≡ Taken t → st ≡ sets state 0 (receiverOut t) → Took 0 st c
-    block-taken t st is u = took 0 st (sym (ap numberOf is)) (u ∙ sym (ap (λ (d : Block). blockAfter d state) is))
+module _ (state : List ℕ) where
+  pub fault-short : length state < 16 → 7 ≡ stateNumber state
+  unfolding stateNumber
+  fault-short h = rw (lt-leb 16 (length state) h)
+
+  pub fault-of : (s : Receiver) (n : ℕ) → 16 ≤ length state → s ≡ receiverIn state → n ≡ stateRefusal s → n ≡ stateNumber state
+  unfolding stateNumber
+  fault-of s n h e q = q ∙ rw (le-leb 16 (length state) h, ← e)
 
 -- MAKING A RECEIVER
 

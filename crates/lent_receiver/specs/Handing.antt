@@ -5,6 +5,8 @@ use mathlib.Core.List.{List}
 use lib.Seq.{sets}
 use Rattle.receiver.specs.declared.Outcome.{Outcome}
 use Rattle.receiver.specs.declared.Outcome.the-variants.{Refused, Referenced, Bits, Gap}
+use Rattle.bulk.specs.declared.Block.{Block}
+use Rattle.bulk.specs.declared.Block.the-variants.{Refused as NotTaken, Taken}
 use Rattle.lent_receiver.specs.Receiving.{receiverOut, answerOut, holdsAnswer, atMost7}
 
 abbrev pub numberOut : Outcome → ℕ
@@ -34,3 +36,8 @@ handedState state answer o = cond (holdsAnswer answer) (stateAfter o state) stat
 
 unfoldable pub handedAnswer : List ℕ → Outcome → List ℕ
 handedAnswer answer o = cond (holdsAnswer answer) (sets answer 0 (answerOut o)) answer
+
+-- the bytes that a block leaves
+abbrev pub blockAfter : Block → List ℕ → List ℕ
+blockAfter (NotTaken n) b = b
+blockAfter (Taken t) b = sets b 0 (receiverOut t)

@@ -7,10 +7,8 @@ use mathlib.Core.Path.{_≡_}
 use mathlib.Core.Bool.{Bool, _&&_, cond}
 use mathlib.Core.List.{List, [], _∷_, _++_, map}
 use lib.Dec.{leb, ltb, eqb}
-use lib.IntN.{ℤ}
 use lib.ListN.{length, getD}
 use lib.Seq.{sets}
-use Rattle.line.specs.Point.{pairs}
 use Rattle.line.specs.Refusal.{need, accepted, modeRefusal}
 use Rattle.octets.specs.Number.{u32, le32}
 use Rattle.receiver.specs.declared.Reference.{Reference}
@@ -18,10 +16,10 @@ use Rattle.receiver.specs.declared.Reference.the-variants.{Nothing, State}
 use Rattle.receiver.specs.declared.Receiver.{Receiver}
 use Rattle.receiver.specs.declared.Outcome.{Outcome}
 use Rattle.receiver.specs.declared.Outcome.the-variants.{Refused, Referenced, Bits, Gap}
-use Rattle.receiver.specs.Receiver.{Event, point, receiver, freshReceiver, refusal, next}
+use Rattle.receiver.specs.Receiver.{Event, point, receiver, freshReceiver, stateRefusal, refusal, next}
 use Rattle.receiver.specs.Outcome.{outcome}
 use Rattle.receiver.specs.Calls.{after}
-use Rattle.bulk.specs.Block.{Parts, sizes, blockRefusal, partsAfter}
+use Rattle.bulk.specs.Block.{Given, pointsOf, Parts, sizes, blockRefusal, partsAfter}
 use Rattle.lent.specs.State.{registerIn, clear, stateOut, holdsState, makingNumber}
 
 -- THE BYTES OF A STATE
@@ -80,11 +78,17 @@ holdsAnswer b = leb 12 (length b)
 unfoldable pub atMost7 : ℕ → ℕ
 atMost7 n = cond (leb 1 n && ltb n 7) n 7
 
--- an event: its number, the state's bytes and the answer's bytes when it returns. Without a state's bytes there is no state to refuse
+-- of a call that the number n refuses. Without a state's bytes there is no state to refuse
+abbrev pub lentNumber : List ℕ → List ℕ → ℕ → ℕ
+lentNumber state answer n = need (holdsState state) 7 (cond (holdsAnswer answer) n (atMost7 n))
+
+-- the number of what is wrong with the state alone
+unfoldable pub stateNumber : List ℕ → ℕ
+stateNumber state = need (holdsState state) 7 (stateRefusal (receiverIn state))
+
+-- an event: its number, the state's bytes and the answer's bytes when it returns
 unfoldable pub callNumber : List ℕ → List ℕ → Event → ℕ
-callNumber state answer e =
-    let n : ℕ = refusal (receiverIn state) e in
-    need (holdsState state) 7 (cond (holdsAnswer answer) n (atMost7 n))
+callNumber state answer e = lentNumber state answer (refusal (receiverIn state) e)
 
 unfoldable pub callState : List ℕ → List ℕ → Event → List ℕ
 callState state answer e = accepted (callNumber state answer e) (sets state 0 (receiverOut (next (receiverIn state) e))) state
@@ -93,12 +97,12 @@ unfoldable pub callAnswer : List ℕ → List ℕ → Event → List ℕ
 callAnswer state answer e = accepted (callNumber state answer e) (sets answer 0 (answerOut (outcome (receiverIn state) e))) answer
 
 -- many points: their number, the bytes of the state and the three lent parts when the call returns
-unfoldable pub blockNumber : List ℕ → List ℤ → Parts → ℕ
-blockNumber state zs b = need (holdsState state) 7 (blockRefusal (receiverIn state) zs (sizes b))
+unfoldable pub blockNumber : List ℕ → Given → Parts → ℕ
+blockNumber state g b = need (holdsState state) 7 (blockRefusal (receiverIn state) g (sizes b))
 
-unfoldable pub blockState : List ℕ → List ℤ → Parts → List ℕ
-blockState state zs b =
-    accepted (blockNumber state zs b) (sets state 0 (receiverOut (after (receiverIn state) (map point (pairs zs))))) state
+unfoldable pub blockState : List ℕ → Given → Parts → List ℕ
+blockState state g b =
+    accepted (blockNumber state g b) (sets state 0 (receiverOut (after (receiverIn state) (map point (pointsOf g))))) state
 
-unfoldable pub blockParts : List ℕ → List ℤ → Parts → Parts
-blockParts state zs b = cond (holdsState state) (partsAfter (receiverIn state) zs b) b
+unfoldable pub blockParts : List ℕ → Given → Parts → Parts
+blockParts state g b = cond (holdsState state) (partsAfter (receiverIn state) g b) b

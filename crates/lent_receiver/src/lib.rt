@@ -6,9 +6,9 @@ ghost use lib.Seq.{sets};
 ghost use Rattle.line.specs.Point.{at};
 ghost use Rattle.octets.specs.Number.{u32 as word};
 ghost use Rattle.receiver.specs.Receiver.{point, gap};
-ghost use Rattle.bulk.specs.Block.{parts};
-ghost use Rattle.lent_receiver.specs.Receiving.{referenceIn, receiverIn, present, stateByte, receiverOut, answerBytes, freshNumber, freshState, atMost7, callNumber, callState, callAnswer, blockNumber, blockState, blockParts};
-ghost use Rattle.lent_receiver.specs.Handing.{numberOut, NoPoint, handedNumber, handedState, handedAnswer};
+ghost use Rattle.bulk.specs.Block.{inUnits, inLevels, parts, numberOf};
+ghost use Rattle.lent_receiver.specs.Receiving.{referenceIn, receiverIn, present, stateByte, receiverOut, answerBytes, freshNumber, freshState, atMost7, callNumber, callState, callAnswer, blockNumber, blockState, blockParts, stateNumber};
+ghost use Rattle.lent_receiver.specs.Handing.{numberOut, NoPoint, handedNumber, handedState, handedAnswer, blockAfter};
 use bulk::Block;
 use receiver::Intervals;
 use receiver::Outcome;
@@ -229,22 +229,11 @@ pub fn receive_point(state: &mut [u8], re: i16, im: i16, answer: &mut [u8]) -> u
     hand_back(state, answer, o)
 }
 
-// Points, re and im in turn, all or none: 0, or the number that refuses them.
-pub fn receive_points(
-    state: &mut [u8],
-    points: &[i16],
-    line: &mut [u8],
-    plain: &mut [u8],
-    distance: &mut [u32],
-) -> u8
-    ensures { λ r. ⌜ (r ≡ blockNumber (now (state .entry)) (now (points .entry)) (parts (now (line .entry)) (now (plain .entry)) (now (distance .entry))))
-        × (now (state .exit) ≡ blockState (now (state .entry)) (now (points .entry)) (parts (now (line .entry)) (now (plain .entry)) (now (distance .entry))))
-        × (parts (now (line .exit)) (now (plain .exit)) (now (distance .exit)) ≡ blockParts (now (state .entry)) (now (points .entry)) (parts (now (line .entry)) (now (plain .entry)) (now (distance .entry)))) ⌝ }
+// The number of a block's answer, and its state into the lent bytes.
+fn hand_back_block(state: &mut [u8], b: Block) -> u8
+    requires { ⌜ 16 ≤ size (now state) ⌝ }
+    ensures { λ r. ⌜ (r ≡ numberOf b) × (now (state .exit) ≡ blockAfter b (now (state .entry))) ⌝ }
 {
-    if state.len() < 16 {
-        return 7;
-    }
-    let b = bulk::receive_points(load_receiver(state), points, line, plain, distance);
     match b {
         Block::Refused(n) => n,
         Block::Taken(t) => {
@@ -252,6 +241,44 @@ pub fn receive_points(
             0
         }
     }
+}
+
+// Points in units, re and im in turn, all or none: 0, or the number that refuses them.
+pub fn receive_points(
+    state: &mut [u8],
+    points: &[i16],
+    line: &mut [u8],
+    plain: &mut [u8],
+    distance: &mut [u32],
+) -> u8
+    ensures { λ r. ⌜ (r ≡ blockNumber (now (state .entry)) (inUnits (now (points .entry))) (parts (now (line .entry)) (now (plain .entry)) (now (distance .entry))))
+        × (now (state .exit) ≡ blockState (now (state .entry)) (inUnits (now (points .entry))) (parts (now (line .entry)) (now (plain .entry)) (now (distance .entry))))
+        × (parts (now (line .exit)) (now (plain .exit)) (now (distance .exit)) ≡ blockParts (now (state .entry)) (inUnits (now (points .entry))) (parts (now (line .entry)) (now (plain .entry)) (now (distance .entry)))) ⌝ }
+{
+    if state.len() < 16 {
+        return 7;
+    }
+    let b = bulk::receive_points(load_receiver(state), points, line, plain, distance);
+    hand_back_block(state, b)
+}
+
+// The same in levels.
+pub fn receive_levels(
+    state: &mut [u8],
+    levels: &[f32],
+    line: &mut [u8],
+    plain: &mut [u8],
+    distance: &mut [u32],
+) -> u8
+    ensures { λ r. ⌜ (r ≡ blockNumber (now (state .entry)) (inLevels (now (levels .entry))) (parts (now (line .entry)) (now (plain .entry)) (now (distance .entry))))
+        × (now (state .exit) ≡ blockState (now (state .entry)) (inLevels (now (levels .entry))) (parts (now (line .entry)) (now (plain .entry)) (now (distance .entry))))
+        × (parts (now (line .exit)) (now (plain .exit)) (now (distance .exit)) ≡ blockParts (now (state .entry)) (inLevels (now (levels .entry))) (parts (now (line .entry)) (now (plain .entry)) (now (distance .entry)))) ⌝ }
+{
+    if state.len() < 16 {
+        return 7;
+    }
+    let b = readings::receive_levels(load_receiver(state), levels, line, plain, distance);
+    hand_back_block(state, b)
 }
 
 // A gap of n intervals: 0, or the number that refuses it.
@@ -263,4 +290,14 @@ pub fn receive_gap(state: &mut [u8], n: u32, answer: &mut [u8]) -> u8
     }
     let o = receiver::receive_gap(load_receiver(state), n);
     hand_back_gap(state, answer, o)
+}
+
+// The number of what is wrong with a state's bytes, 0 for nothing.
+pub fn state_fault(state: &[u8]) -> u8
+    ensures { λ r. ⌜ r ≡ stateNumber (now (state .entry)) ⌝ }
+{
+    if state.len() < 16 {
+        return 7;
+    }
+    receiver::state_fault(load_receiver(state))
 }

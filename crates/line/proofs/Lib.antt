@@ -5,3 +5,4 @@ pub mod Signed
 pub mod PointLaws
 pub mod StateLaws
 pub mod RefusalLaws
+pub mod Sets

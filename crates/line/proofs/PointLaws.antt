@@ -1,35 +1,24 @@
 -- What the public functions on points give, from what their callees ensure; and the points of a list of numbers. Assumes nothing.
 use mathlib.Core.Path.{_≡_, refl, sym, ap, ap₂, _∙_}
-use mathlib.Core.Bool.{Bool, _&&_, and-true, and-assoc}
-use mathlib.Core.List.{List, [], _∷_}
-use Prim.Native.Nat.{ℕ, suc, _+_, _/_, _%_, _≤_, _<_}
+use mathlib.Core.Bool.{_&&_, and-true}
+use mathlib.Core.List.{List, [], _∷_, _++_}
+use Prim.Native.Nat.{ℕ, zero, suc, _+_, _*_, _/_, _%_, _≤_, _<_}
 use native.Mathlib.Omega.{arith}
 use lib.Dec.{leb, leb·suc-suc}
 use lib.IntN.{ℤ, pos, negsuc}
 use lib.Signed.{leZ}
-use lib.ListN.{length, getD, drop, length-drop, drop-of-length-le}
+use lib.ListN.{length, getD, take, drop, length-drop}
 use lib.Seq.{drop-cons}
 use Rattle.line.specs.declared.Point.{Point}
 use Rattle.line.specs.Table.{Tabled}
 use Rattle.line.specs.Mode.{byMode}
 use Rattle.line.proofs.ByMode.{mode-short, mode-long}
-use Rattle.line.specs.Point.{at, pairs, coordinateIn, coordinatesIn, sent27, levels32, sent32, sentPoint}
+use Rattle.line.specs.Point.{at, pairs, coordinateIn, sent27, levels32, sent32, sentPoint}
 
 -- the two tests of a coordinate
 pub coordinate-in : (x : ℤ) → (leZ (negsuc 16383) x && leZ x (pos 16384)) ≡ coordinateIn x
 coordinate-in (pos n) = refl
 coordinate-in (negsuc n) = and-true (leb n 16383) ∙ sym (leb·suc-suc n 16383)
-
--- the coordinates from number k on
-module _ (zs : List ℤ) (k : ℕ) (all : Bool) where
-  pub range-step : (b : Bool) → coordinatesIn zs ≡ all && coordinatesIn (drop k zs) → k < length zs → b ≡ coordinateIn (getD zs k (pos 0))
-      → coordinatesIn zs ≡ (all && b) && coordinatesIn (drop (k + 1) zs)
-  range-step b e h q =
-      e ∙ ap (λ (l : List ℤ). all && coordinatesIn l) (drop-cons zs k (pos 0) h) ∙ sym (and-assoc all (coordinateIn (getD zs k (pos 0))) (coordinatesIn (drop (suc k) zs)))
-      ∙ ap₂ (λ (c : Bool) (n : ℕ). (all && c) && coordinatesIn (drop n zs)) (sym q) (let f : suc k ≡ k + 1 = omega arith in f)
-
-  pub range-end : coordinatesIn zs ≡ all && coordinatesIn (drop k zs) → length zs ≤ k → all ≡ coordinatesIn zs
-  range-end e h = sym (e ∙ ap (λ (l : List ℤ). all && coordinatesIn l) (drop-of-length-le zs h) ∙ and-true all)
 
 -- the points from number k on
 pub pairs-step : (zs : List ℤ) (k : ℕ) → k + 1 < length zs
@@ -50,6 +39,15 @@ pub pairs-length : (zs : List ℤ) → length (pairs zs) ≡ length zs / 2
 pairs-length [] = refl
 pairs-length (x ∷ []) = refl
 pairs-length (x ∷ y ∷ zs) = let e : length (pairs zs) ≡ length zs / 2 = pairs-length zs in omega arith
+
+-- some points, and then others
+pub pairs-split : (m : ℕ) (ys : List ℤ) → 2 * m ≤ length ys → pairs ys ≡ pairs (take (2 * m) ys) ++ pairs (drop (2 * m) ys)
+pairs-split zero ys h = refl
+pairs-split (suc m) [] h = absurd (omega arith)
+pairs-split (suc m) (x ∷ []) h = absurd (omega arith)
+pairs-split (suc m) (x ∷ y ∷ ys) h =
+    ap (λ (ps : List Point). at x y ∷ ps) (pairs-split m ys (omega arith))
+    ∙ ap (λ (n : ℕ). pairs (take n (x ∷ y ∷ ys)) ++ pairs (drop n (x ∷ y ∷ ys))) (let e : suc (suc (2 * m)) ≡ 2 * suc m = omega arith in e)
 
 -- a number comes round as the constellation of 16 does
 pub sent-round : (m s : ℕ) → sentPoint m (s % 16) ≡ sentPoint m s

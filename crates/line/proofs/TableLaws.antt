@@ -1,15 +1,15 @@
 -- A test over a list, computed once, and the law that carries it to each member. Assumes nothing.
-use mathlib.Core.Path.{_≡_, refl, sym, ap, _∙_, subst}
-use mathlib.Core.Bool.{Bool, true, false, _&&_, _||_, not, cond}
-use mathlib.Core.List.{List, [], _∷_, _++_}
+use mathlib.Core.Path.{_≡_, refl, sym, ap, ap₂, _∙_, subst}
+use mathlib.Core.Bool.{Bool, true, false, _&&_, _||_, not, cond, and-true, and-assoc}
+use mathlib.Core.List.{List, [], _∷_, _++_, map}
 use Prim.Native.Nat.{ℕ, zero, suc, _+_, _%_, _<_, _≤_}
 use native.Mathlib.Nat.{not-suc-le-zero, mod-lt}
 use native.Mathlib.Omega.{arith}
 use native.Mathlib.Decide.{decLt}
 use borrow.Author.Tests.{eqb-false}
 use lib.Dec.{T, eqb, ltb, eqb→eq, ltb→lt}
-use lib.ListN.{length, getD, set, replicate, length-set}
-use lib.Seq.{getD-set-same, getD-set-other}
+use lib.ListN.{length, getD, set, take, drop, replicate, length-set, drop-of-length-le}
+use lib.Seq.{drop-cons, getD-set-same, getD-set-other}
 use Rattle.line.specs.Table.{entry, rowFrom, member, below, every, Tabled}
 
 pub and-left : (a b : Bool) → T (a && b) → T a
@@ -61,6 +61,44 @@ pub every-append : (f : ℕ → Bool) (xs ys : List ℕ) → T (every f xs) → 
 every-append f [] ys t u = u
 every-append f (x ∷ xs) ys t u =
     and-intro (f x) (every f (xs ++ ys)) (and-left (f x) (every f xs) t) (every-append f xs ys (and-right (f x) (every f xs) t) u)
+
+-- what every member passes, those of a part pass, and each by its place
+module _ {A : Type 0} (f : A → Bool) where
+  pub every-take : (n : ℕ) (xs : List A) → T (every f xs) → T (every f (take n xs))
+  every-take zero xs t = tt
+  every-take (suc n) [] t = tt
+  every-take (suc n) (x ∷ xs) t = and-intro (f x) (every f (take n xs)) (and-left (f x) (every f xs) t) (every-take n xs (and-right (f x) (every f xs) t))
+
+  pub every-drop : (n : ℕ) (xs : List A) → T (every f xs) → T (every f (drop n xs))
+  every-drop zero xs t = t
+  every-drop (suc n) [] t = tt
+  every-drop (suc n) (x ∷ xs) t = every-drop n xs (and-right (f x) (every f xs) t)
+
+  pub every-placed : (none : A) (k : ℕ) (xs : List A) → k < length xs → T (every f xs) → T (f (getD xs k none))
+  every-placed none k [] h t = absurd (not-suc-le-zero h)
+  every-placed none zero (x ∷ xs) h t = and-left (f x) (every f xs) t
+  every-placed none (suc k) (x ∷ xs) h t = every-placed none k xs (omega arith) (and-right (f x) (every f xs) t)
+
+-- a loop that looks at one member after the other: those before k were looked at, and `all` says whether each passed
+module _ {A : Type 0} (f : A → Bool) (none : A) (xs : List A) (k : ℕ) (all : Bool) (e : every f xs ≡ all && every f (drop k xs)) where
+  pub every-step : (b : Bool) → k < length xs → b ≡ f (getD xs k none) → every f xs ≡ (all && b) && every f (drop (k + 1) xs)
+  every-step b h q =
+      e ∙ ap (λ (l : List A). all && every f l) (drop-cons xs k none h) ∙ sym (and-assoc all (f (getD xs k none)) (every f (drop (suc k) xs)))
+      ∙ ap₂ (λ (c : Bool) (n : ℕ). (all && c) && every f (drop n xs)) (sym q) (let i : suc k ≡ k + 1 = omega arith in i)
+
+  pub every-end : length xs ≤ k → all ≡ every f xs
+  every-end h = sym (e ∙ ap (λ (l : List A). all && every f l) (drop-of-length-le xs h) ∙ and-true all)
+
+-- a part of a list, mapped
+pub map-take : {A B : Type 0} (f : A → B) (n : ℕ) (xs : List A) → map f (take n xs) ≡ take n (map f xs)
+map-take f zero xs = refl
+map-take f (suc n) [] = refl
+map-take f (suc n) (x ∷ xs) = ap (λ l. f x ∷ l) (map-take f n xs)
+
+pub map-drop : {A B : Type 0} (f : A → B) (n : ℕ) (xs : List A) → map f (drop n xs) ≡ drop n (map f xs)
+map-drop f zero xs = refl
+map-drop f (suc n) [] = refl
+map-drop f (suc n) (x ∷ xs) = map-drop f n xs
 
 pub member-below : (n x : ℕ) → x < n → T (member x (below n))
 member-below zero x h = absurd (not-suc-le-zero h)

@@ -11,7 +11,7 @@ use lib.ListN.{length, set, length-append}
 use lib.Seq.{sets, set-comm}
 use Rattle.line.proofs.TableLaws.{and-intro, every-append}
 use Rattle.line.proofs.Tests.{by-test}
-use Rattle.octets.proofs.Sets.{sets-then}
+use Rattle.line.proofs.Sets.{sets-then}
 use Rattle.line.specs.Table.{every}
 use Rattle.listing.specs.Text.{digits, decimal}
 use Rattle.listing.specs.Agreement.{value}

@@ -22,6 +22,7 @@ use Rattle.store.specs.Layout.{next as nextIn}
 use Rattle.store.specs.Store.{events, refusal}
 use Rattle.line.specs.Table.{All}
 use Rattle.store.proofs.Readings.{Along, along-start, along-step, ahead, ahead-start, ahead-step, left, left-start, left-step, left-end, of-points, of-lost}
+use Rattle.receiver.proofs.CallLaws.{each-split}
 use Rattle.store.proofs.Sounds.{accepted-sound}
 use Rattle.listing.specs.declared.Progress.{Progress}
 use Rattle.listing.specs.Text.{taken, lineText, lines}
@@ -34,10 +35,6 @@ lines-append s [] ys = refl
 lines-append s (e ∷ xs) ys =
     ap (λ (l : List ℕ). lineText (s .place .0) (answer s e) ++ l) (lines-append (next s e) xs ys)
     ∙ sym (append-assoc (lineText (s .place .0) (answer s e)) _ _)
-
-each-split : (s : Receiver) (xs ys : List Call) → EachAccepted s (xs ++ ys) → EachAccepted s xs × EachAccepted (after s xs) ys
-each-split s [] ys a = (tt, a)
-each-split s (e ∷ xs) ys a = let z = each-split (next s e) xs ys (a .1) in ((a .0, z .0), z .1)
 
 -- ---- the events of a record
 pub record Points (r : List ℕ) : Type 0 where

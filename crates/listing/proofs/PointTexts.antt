@@ -18,7 +18,7 @@ use Rattle.line.proofs.ByMode.{width-range}
 use Rattle.line.proofs.PointLaws.{pairs-length}
 use Rattle.octets.specs.Number.{u16, i16, signed}
 use Rattle.octets.proofs.Numbers.{u16-drop}
-use Rattle.octets.proofs.Sets.{sets-whole}
+use Rattle.line.proofs.Sets.{sets-whole}
 use Rattle.deciding.specs.Decide.{Region, State, Origin, NoSector, decide}
 use Rattle.deciding.specs.Distance.{distance}
 use Rattle.coding.specs.Code.{group}
@@ -37,7 +37,7 @@ use Rattle.receiver.proofs.OutcomeLaws.{in-a-sector, accepted-placed}
 use Rattle.receiver.proofs.CallLaws.{no-refusal, accepted-valid, same-next, heard-accepted, heard-all}
 use Rattle.bulk.specs.declared.Block.{Block}
 use Rattle.bulk.specs.declared.Block.the-variants.{Refused as NotTaken, Taken}
-use Rattle.bulk.specs.Block.{lineByte, plainByte, answersTo, Parts, wrote, sizes, lentOk, blockRefusal, block, partsAfter}
+use Rattle.bulk.specs.Block.{inUnits, lineByte, plainByte, answersTo, Parts, wrote, sizes, lentOk, blockRefusal, block, partsAfter}
 use Rattle.bulk.proofs.BlockLaws.{has-place, each-has-place, at-once}
 use Rattle.store.specs.Layout.{points}
 use Rattle.listing.specs.Text.{decimal, kindText, lineText, lineEnd, taken, lines}
@@ -182,27 +182,27 @@ module _ (r : List ℕ) (n : ℕ) (s : Receiver) (numbers : List ℤ) (e : numbe
       ap (take n) (h ∙ sets-eq vs l 0 (omega arith)) ∙ take-at vs _ n long
 
   module _ (b : Parts) (el : length (b .line) ≡ 7) (ep : length (b .plain) ≡ 7) (ed : length (b .distance) ≡ 7) where
-    free-block : blockRefusal s zs (sizes b) ≡ 0
+    free-block : blockRefusal s (inUnits zs) (sizes b) ≡ 0
     unfolding lentOk
     free-block =
         let k = pairs-long in
-        at-once s zs (sizes b) (passes .0) (passes .1)
+        at-once s (inUnits zs) (sizes b) (passes .0) (passes .1)
         (rw (
           eq-eqb (length zs % 2) 0 (omega (arith, zs-long)),
           le-leb (length (pairs zs)) (length (b .line)) (omega arith),
           le-leb (length (pairs zs)) (length (b .plain)) (omega arith),
           le-leb (length (pairs zs)) (length (b .distance)) (omega arith),
-        ) tt) each-accepted
+        ) tt) tt each-accepted
 
-    is-taken : block s zs (sizes b) ≡ Taken (after s (map point (pairs zs)))
+    is-taken : block s (inUnits zs) (sizes b) ≡ Taken (after s (map point (pairs zs)))
     unfolding block
     is-taken = ap (λ (k : ℕ). accepted k (Taken (after s (map point (pairs zs)))) (NotTaken k)) free-block
 
-    pub not-refused : (r : Block) (k : ℕ) → r ≡ block s zs (sizes b) → r ≡ NotTaken k → ⊥
+    pub not-refused : (r : Block) (k : ℕ) → r ≡ block s (inUnits zs) (sizes b) → r ≡ NotTaken k → ⊥
     not-refused r k e h = let t = is-taken in let z : _≡_ {A = ℕ} 0 1 = cc in omega arith
 
-    pub points-went : {out out′ : List ℕ} {at q : ℕ} (c : Parts) (d : Block) (t : Receiver) (w : ℕ) → c ≡ partsAfter s zs b
-        → d ≡ block s zs (sizes b) → d ≡ Taken t → w ≡ width (s .mode) → Wrote out at (byteLines w (s .place .0) (take n (c .line)) (take n (c .plain))) out′ q
+    pub points-went : {out out′ : List ℕ} {at q : ℕ} (c : Parts) (d : Block) (t : Receiver) (w : ℕ) → c ≡ partsAfter s (inUnits zs) b
+        → d ≡ block s (inUnits zs) (sizes b) → d ≡ Taken t → w ≡ width (s .mode) → Wrote out at (byteLines w (s .place .0) (take n (c .line)) (take n (c .plain))) out′ q
         → Went out at s (map taken (points (drop 4 r) n)) out′ (record { at = q; state = t })
     unfolding partsAfter
     points-went {out} {out′} {at} {q} c d t w ec eb et ew a =

@@ -10,7 +10,7 @@ use lib.Dec.{ltb}
 use lib.ListN.{length, length-append}
 use lib.Seq.{sets}
 use Rattle.line.proofs.Tests.{by-test}
-use Rattle.octets.proofs.Sets.{sets-then}
+use Rattle.line.proofs.Sets.{sets-then}
 use Rattle.scrambler.specs.Bits.{bits}
 use Rattle.scrambler.specs.Group.{marked}
 use Rattle.listing.specs.Text.{glyphs, lineGlyphs, decimal, ref, bitsAre, lostAre, blank, lineEnd, kindText, lineText}

@@ -1,4 +1,3 @@
-pub mod Sets
 pub mod Numbers
 pub mod Signs
 pub mod Loops

@@ -11,7 +11,7 @@ use lib.Dec.{eqb}
 use lib.ListN.{length, getD, set, drop, drop-of-length-le, replicate}
 use lib.Seq.{sets, drop-cons}
 use Rattle.octets.specs.Number.{zeros}
-use Rattle.octets.proofs.Sets.{sets-out}
+use Rattle.line.proofs.Sets.{sets-out}
 use Rattle.line.proofs.Tests.{and-split, lt-or-ge}
 
 -- one byte more looked at

@@ -11,7 +11,7 @@ use lib.Seq.{sets, getD-drop}
 use mir.Syntax.{w16}
 use mir.Val.{SFits}
 use Rattle.octets.specs.Number.{u16, u32, le16, le32, pattern, signed, i16, leI16}
-use Rattle.octets.proofs.Sets.{getD-sets-in, getD-sets-out}
+use Rattle.line.proofs.Sets.{getD-sets-in, getD-sets-out}
 
 pub halves : (v : ℕ) → v < 65536 → v % 256 + 256 * (v / 256 % 256) ≡ v
 halves v h = omega arith

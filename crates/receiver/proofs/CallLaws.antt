@@ -198,6 +198,10 @@ heard-append s (e ∷ es) ys = go (refusal s e) (record { event = e; answered = 
     go zero x xs ys zs q = ap (λ (l : List Heard). x ∷ l) q
     go (suc n) x xs ys zs q = q
 
+pub each-split : (s : Receiver) (xs ys : List Event) → EachAccepted s (xs ++ ys) → EachAccepted s xs × EachAccepted (after s xs) ys
+each-split s [] ys a = (tt, a)
+each-split s (e ∷ xs) ys a = let z = each-split (next s e) xs ys (a .1) in ((a .0, z .0), z .1)
+
 -- an accepted call is heard; where no call is refused all are, in order
 pub heard-accepted : (s : Receiver) (e : Event) (es : List Event) → refusal s e ≡ 0 → heard s (e ∷ es) ≡ record { event = e; answered = answer s e } ∷ heard (next s e) es
 heard-accepted s e es z = ap (λ (n : ℕ). accepted n (record { event = e; answered = answer s e } ∷ heard (next s e) es) (heard (next s e) es)) z

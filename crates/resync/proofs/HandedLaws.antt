@@ -20,14 +20,15 @@ use Rattle.sender.specs.Calls.{DataPoint}
 use Rattle.sender.specs.Sender.{afterGroup}
 use Rattle.sender.proofs.DataLaws.{Made, From, consecutive}
 use Rattle.store.specs.Layout as Stored
-use Rattle.octets.proofs.Sets.{getD-sets-in}
+use Rattle.line.proofs.Sets.{getD-sets-in}
+use Rattle.line.proofs.TableLaws.{map-drop}
 use Rattle.store.specs.Store.{events, refusal}
 use Rattle.store.specs.Reads.{numbers, readNumber, readCount, readResult}
 use Rattle.track.specs.Calls.{after, taken}
 use Rattle.track.proofs.CallLaws.{Run, calls-law}
 use Rattle.resync.specs.Assured.{assuredPoint, dataFrom}
 use Rattle.resync.specs.DataPoints.{Consecutive, received, appended, eventIn, eventsIn, ReadBack, Handed, givenFrom}
-use Rattle.resync.proofs.RowLaws.{drop-row, map-drop}
+use Rattle.resync.proofs.RowLaws.{drop-row}
 use Rattle.resync.proofs.ReceivedLaws.{data-any, enough}
 use Rattle.receiver.proofs.ShapeLaws.{Shape}
 use Rattle.resync.proofs.SenderLaws.{groupsOf, decided-made, states-same, made-sized, data-given}

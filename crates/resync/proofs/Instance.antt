@@ -16,6 +16,9 @@ use Rattle.receiver.specs.Receiver.{freshReceiver, isFresh, fieldsOk, stateRefu
 use Rattle.training.specs.Coder.{coding}
 use Rattle.sender.specs.Sender as Sending
 use Rattle.sender.specs.Sender.{dataRefusal, sendRefusal, grouped, afterGroup, sendAnswer, sendNumbers, fieldsOk as sendFieldsOk, stateRefusal as sendStateRefusal, hasRoom as sendHasRoom}
+use lib.Ieee.{neg}
+use Rattle.levels.specs.Levels.{isFinite, rounded}
+use Rattle.readings.specs.Reading.{readingRefusal, readingAnswer, readingNext}
 use Rattle.octets.specs.Number.{pattern, signed}
 use Rattle.store.specs.Layout.{recordOk, spanOf, eventsOf, next as nextIndex}
 use Rattle.store.specs.Store.{chain, events, total, sizeOk, hasMark, headOk, chainOk, recordsOk, totalOk, refusal as storeRefusal}
@@ -45,7 +48,7 @@ read-back =
     }
 
 pub premises : Premises
-unfolding sent listA listB entry rowFrom isMode isRole width farTap capacity step states isState quadrant turn quarterSteps face inRange isOrigin sent27 sentPoint inFirst first turnedAnswer quarters decide changes4 coded eighths group isBit back nearTap push registerOk mix freshReceiver isFresh fieldsOk modeRefusal stateRefusal hasRoom eventRefusal refusal stateAnswer pointAnswer eventAnswer answer forgotten stateLine stateNext pointNext eventNext next coding dataRefusal sendRefusal grouped afterGroup sendAnswer sendNumbers sendFieldsOk sendStateRefusal sendHasRoom
+unfolding sent listA listB entry rowFrom isMode isRole width farTap capacity step states isState quadrant turn quarterSteps face inRange isOrigin sent27 sentPoint inFirst first turnedAnswer quarters decide changes4 coded eighths group isBit back nearTap push registerOk mix freshReceiver isFresh fieldsOk modeRefusal stateRefusal hasRoom eventRefusal refusal stateAnswer pointAnswer eventAnswer answer forgotten stateLine stateNext pointNext eventNext next coding dataRefusal sendRefusal grouped afterGroup sendAnswer sendNumbers sendFieldsOk sendStateRefusal sendHasRoom neg isFinite rounded readingRefusal readingAnswer readingNext
 premises =
     record {
       points-A = (tt, (tt, (tt, (tt, (tt, (tt, (tt, (tt, tt))))))));

@@ -2,8 +2,8 @@ pub mod RowLaws
 pub mod ReceivedLaws
 pub mod SenderLaws
 pub mod HandedLaws
+pub mod CallLists
 pub mod DemandProof
 pub mod RoundTrip
-pub mod CallLists
 pub mod Instance
 pub mod Bench

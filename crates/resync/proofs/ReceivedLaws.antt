@@ -11,7 +11,7 @@ use lib.Seq.{drop-nil}
 use Rattle.line.specs.Table.{every}
 use Rattle.line.specs.Mode.{isMode, isState, width, farTap, capacity}
 use Rattle.line.proofs.StateLaws.{mode-cases}
-use Rattle.line.proofs.TableLaws.{and-intro}
+use Rattle.line.proofs.TableLaws.{and-intro, map-drop}
 use Rattle.scrambler.specs.declared.Register.{Register}
 use Rattle.scrambler.specs.Register.{register}
 use Rattle.scrambler.specs.Scramble.{descramble}
@@ -20,7 +20,7 @@ use Rattle.receiver.specs.Turn.{lines, Turned}
 use Rattle.receiver.proofs.ShapeLaws.{Follows, Shape}
 use Rattle.receiver.proofs.TurnLaws.{lines→turned, turned→lines}
 use Rattle.resync.specs.Assured.{assuredPoint, dataFrom, AllSettled}
-use Rattle.resync.proofs.RowLaws.{drop-row, map-drop, forget, all-settled, all-drop}
+use Rattle.resync.proofs.RowLaws.{drop-row, forget, all-settled, all-drop}
 
 -- ASSURED DATA BITS
 

@@ -1,7 +1,7 @@
 -- Groups of one size in a row, and what R line bits make of two registers. Assumes nothing.
 use Prim.Native.Nat.{ℕ, zero, suc, _+_, _*_, _≤_}
 use mathlib.Core.Path.{_≡_, refl, sym, _∙_, ap}
-use mathlib.Core.List.{List, [], _∷_, _++_, map}
+use mathlib.Core.List.{List, [], _∷_, _++_}
 use native.Mathlib.Omega.{arith}
 use native.Mathlib.Decide.{decLe}
 use borrow.Author.Tests.{le-leb}
@@ -27,11 +27,6 @@ drop-row w (suc n) (g ∷ gs) a =
   where
     drop-more : {A : Type 0} (w k : ℕ) (g r : List A) → length g ≡ w → drop (w + k) (g ++ r) ≡ drop k r
     drop-more w k g r e = ap (λ (i : ℕ). drop (i + k) (g ++ r)) (sym e) ∙ drop-append-add g r k
-
-pub map-drop : {A B : Type 0} (f : A → B) (n : ℕ) (xs : List A) → map f (drop n xs) ≡ drop n (map f xs)
-map-drop f zero xs = refl
-map-drop f (suc n) [] = refl
-map-drop f (suc n) (x ∷ xs) = map-drop f n xs
 
 -- past R line bits what a register held before does not count
 pub forget : (m role n : ℕ) (h h′ : Register) (bs : List ℕ) → capacity m ≤ n → drop n (descramble m role h bs) ≡ drop n (descramble m role h′ bs)

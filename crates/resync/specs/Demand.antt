@@ -12,6 +12,7 @@ use Rattle.line.specs.Table.{All}
 use Rattle.receiver.specs.Calls.{after, Heard, heard, events, IsPoint, decidedStates, linesFrom2}
 use Rattle.receiver.specs.Turn.{Turned}
 use Rattle.sender.specs.Calls.{DataPoint}
+use Rattle.resync.specs.CallLists.{Call, afterCalls, heardCalls}
 use Rattle.resync.specs.Assured.{assuredPoint, dataFrom, AllSettled}
 use Rattle.resync.specs.DataPoints.{Consecutive, Handed, givenFrom}
 
@@ -35,10 +36,22 @@ pub record Vouched (m role : ℕ) (A B : List Heard) : Type 0 where
 
 -- "Two receivers of one mode and role, whatever each took before; each then takes a list of points and gaps in which it accepts no gap
 -- and no origin point, equally many points. Refused calls may stand anywhere, uncounted." A list starts from what the one before left;
--- `heard` are its accepted calls.
+-- `heardCalls` are its accepted calls. R-3: "a list of float points alone comes under the third demand once rounded, if none of it rounds
+-- to the origin": each of the lists may be of points in units, of points in levels, or mixed, one by one or many by one call.
 abbrev pub Demand3 : Type 0
 Demand3 =
+    (a b : Receiver) (beforeA beforeB listA listB : List Call) → a .mode ≡ b .mode → a .role ≡ b .role
+    → All IsPoint (heardCalls (afterCalls a beforeA) listA) → All IsPoint (heardCalls (afterCalls b beforeB) listB)
+    → length (heardCalls (afterCalls a beforeA) listA) ≡ length (heardCalls (afterCalls b beforeB) listB)
+    → Vouched (a .mode) (a .role) (heardCalls (afterCalls a beforeA) listA) (heardCalls (afterCalls b beforeB) listB)
+
+-- the same for lists of points in units and gaps alone, as it was stated before there were other calls; it follows
+abbrev pub OfPointsAndGaps : Type 0
+OfPointsAndGaps =
     (a b : Receiver) (beforeA beforeB listA listB : List Event) → a .mode ≡ b .mode → a .role ≡ b .role
     → All IsPoint (heard (after a beforeA) listA) → All IsPoint (heard (after b beforeB) listB)
     → length (heard (after a beforeA) listA) ≡ length (heard (after b beforeB) listB)
     → Vouched (a .mode) (a .role) (heard (after a beforeA) listA) (heard (after b beforeB) listB)
+
+abbrev pub Follows : Type 0
+Follows = Demand3 → OfPointsAndGaps

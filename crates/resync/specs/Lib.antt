@@ -1,7 +1,7 @@
 pub mod Assured
 pub mod DataPoints
+pub mod CallLists
 pub mod Demand
 pub mod RoundTrip
-pub mod CallLists
 pub mod Instance
 pub mod Bench

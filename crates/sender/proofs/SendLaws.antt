@@ -16,7 +16,7 @@ use Rattle.coding.specs.Code.{coded}
 use Rattle.line.specs.declared.Point.{Point}
 use Rattle.line.specs.Point.{at, sentPoint}
 use Rattle.line.proofs.PointLaws.{sent-round}
-use Rattle.line.proofs.TableLaws.{and-left, and-right, and-intro}
+use Rattle.line.proofs.TableLaws.{and-left, and-right, every-take, every-drop}
 use Rattle.scrambler.specs.declared.Scrambled.{Scrambled}
 use Rattle.scrambler.specs.Bits.{isBit, bits, value}
 use Rattle.scrambler.specs.Group.{scrambled}
@@ -27,17 +27,6 @@ use Rattle.sender.specs.declared.Sender.{Sender}
 use Rattle.sender.specs.Sender.{coderOf, senderOf, groups, afterGroup, afterGroups, sentStates}
 
 -- BITS
-
-pub every-take : (f : ℕ → Bool) (n : ℕ) (xs : List ℕ) → T (every f xs) → T (every f (take n xs))
-every-take f zero xs t = tt
-every-take f (suc n) [] t = tt
-every-take f (suc n) (x ∷ xs) t =
-    and-intro (f x) (every f (take n xs)) (and-left (f x) (every f xs) t) (every-take f n xs (and-right (f x) (every f xs) t))
-
-pub every-drop : (f : ℕ → Bool) (n : ℕ) (xs : List ℕ) → T (every f xs) → T (every f (drop n xs))
-every-drop f zero xs t = t
-every-drop f (suc n) [] t = tt
-every-drop f (suc n) (x ∷ xs) t = every-drop f n xs (and-right (f x) (every f xs) t)
 
 -- past the end too, where 0 is read
 pub bit-at : (xs : List ℕ) (i : ℕ) → T (every isBit xs) → getD xs i 0 < 2

@@ -10,7 +10,7 @@ use lib.Dec.{T, eqb, eqb→eq}
 use lib.ListN.{length, drop, length-take, length-drop}
 use Rattle.line.specs.Table.{every}
 use Rattle.line.specs.Mode.{isMode, isRole, isState, width, capacity}
-use Rattle.line.proofs.TableLaws.{and-left, and-right, and-intro}
+use Rattle.line.proofs.TableLaws.{and-left, and-right, and-intro, every-take, every-drop}
 use Rattle.scrambler.specs.Bits.{isBit}
 use Rattle.scrambler.specs.Register.{registerOk}
 use Rattle.scrambler.proofs.RegisterLaws.{ok, passes}
@@ -24,7 +24,7 @@ use Rattle.sender.specs.Sender.{coderOf, senderOf, fieldsOk, stateRefusa
 use Rattle.sender.specs.Open.{openRefusal, opened, openAnswer}
 use Rattle.sender.specs.Calls.{Passes, OpenedPasses, SentPasses}
 use Rattle.sender.proofs.RefusalLaws.{StateOk, state-ok, state-accepted, DataOk, send-ok}
-use Rattle.sender.proofs.SendLaws.{every-take, every-drop, group-mode}
+use Rattle.sender.proofs.SendLaws.{group-mode}
 use Rattle.sender.proofs.OpenLaws.{open-ok}
 
 -- NUMBER 4 IS WHAT A CODER NEEDS

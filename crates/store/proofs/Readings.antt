@@ -17,7 +17,7 @@ use Rattle.line.specs.Point.{at}
 use Rattle.octets.specs.Number.{i16, u32}
 use Rattle.line.proofs.Tests.{and-split}
 use Rattle.line.proofs.RefusalLaws.{left-done, left-kept, left-none, or-some}
-use Rattle.octets.proofs.Sets.{sets-then}
+use Rattle.line.proofs.Sets.{sets-then}
 use Rattle.store.specs.Chain.{walk, gather}
 use Rattle.store.specs.Layout.{Event, point, lost, count, rec, next, kind, held, points, eventsOf}
 use Rattle.line.specs.Refusal.{need, orNext}

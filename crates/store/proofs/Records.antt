@@ -8,7 +8,7 @@ use lib.ListN.{length, getD, take, drop, length-drop}
 use lib.Seq.{sets, length-sets, length-take-le, getD-take, getD-drop}
 use Rattle.octets.specs.Number.{u16, u32, le16, le32}
 use Rattle.line.proofs.Tests.{lt-or-ge}
-use Rattle.octets.proofs.Sets.{take-sets-le, take-sets-in, drop-sets-le, drop-sets-in, getD-sets-out}
+use Rattle.line.proofs.Sets.{take-sets-le, take-sets-in, drop-sets-le, drop-sets-in, getD-sets-out}
 use Rattle.octets.proofs.Numbers.{u16-drop, u16-out, u16-in, u32-in}
 use Rattle.store.specs.Layout.{rec, write, linkIn, next}
 use Rattle.store.specs.Store.{total, headOk, hasMark}

@@ -18,7 +18,7 @@ use Rattle.line.specs.declared.Point.{Point}
 use Rattle.line.specs.Point.{at, inRange}
 use Rattle.octets.specs.Number.{u16, u32, le16, le32, pattern, signed, zeros}
 use Rattle.line.proofs.Tests.{by-test, and-split, and-join}
-use Rattle.octets.proofs.Sets.{drop-sets-le, getD-sets-in, getD-sets-out, drop-sets-in, sets-whole}
+use Rattle.line.proofs.Sets.{drop-sets-le, getD-sets-in, getD-sets-out, drop-sets-in, sets-whole}
 use Rattle.octets.proofs.Numbers.{halves, quarters, u16-out, u16-at, pattern-small, signed-pattern}
 use Rattle.octets.proofs.Loops.{zeros-drop}
 use Rattle.store.specs.Chain.{lastOf, greatest, gather}

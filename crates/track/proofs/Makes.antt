@@ -7,7 +7,7 @@ use lib.ListN.{length, take, replicate, length-replicate, replicate-append-repli
 use lib.Seq.{sets, length-sets, take-append-seam}
 use Rattle.line.specs.Mode.{isMode, isRole}
 use Rattle.octets.specs.Number.{u16, u32}
-use Rattle.octets.proofs.Sets.{take-sets-in}
+use Rattle.line.proofs.Sets.{take-sets-in}
 use Rattle.store.specs.Chain.{gather}
 use Rattle.store.specs.Layout.{count, rec, totalAt, firstAt, next, eventsOf}
 use Rattle.line.specs.Refusal.{need, modeRefusal}

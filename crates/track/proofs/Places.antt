@@ -12,7 +12,7 @@ use lib.ListN.{length, set}
 use lib.Seq.{sets}
 use Rattle.line.specs.declared.Point.{Point}
 use Rattle.octets.specs.Number.{le16, le32}
-use Rattle.octets.proofs.Sets.{sets-swap, sets-over}
+use Rattle.line.proofs.Sets.{sets-swap, sets-over}
 use Rattle.line.proofs.Tests.{by-test}
 use Rattle.store.specs.declared.View.{View}
 use Rattle.store.specs.Walk.{Viewed}

@@ -17,9 +17,10 @@ const UNWRITTEN: u8 = 0xa5;
 const UNWRITTEN_DISTANCE: u32 = 0xa5a5_a5a5;
 const SEED: u64 = 4;
 
-/// What receives a block in the outside implementation.
-pub type ReceiveBlock =
-    fn(Receiver, &[i16], &mut [u8], &mut [u8], &mut [u32]) -> Result<Receiver, Refusal>;
+/// What receives a block in the outside implementation: numbers of points in
+/// units, or in levels.
+pub type ReceiveBlock<N = i16> =
+    fn(Receiver, &[N], &mut [u8], &mut [u8], &mut [u32]) -> Result<Receiver, Refusal>;
 
 /// How many bytes of line bits and of data bits and how many distances are lent.
 #[derive(Clone, Copy)]

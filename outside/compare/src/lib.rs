@@ -3,11 +3,13 @@
 
 pub mod bulk;
 pub mod faults;
+pub mod floats;
 pub mod layout;
 pub mod line;
 pub mod listing;
 pub mod ours;
 pub mod points;
+pub mod readings;
 pub mod receiving;
 pub mod sending;
 pub mod signal;

@@ -23,11 +23,45 @@ mod c {
             answer: *mut u8,
             answer_len: usize,
         ) -> u8;
+        pub fn kerambiu_receive_levels(
+            state: *mut u8,
+            state_len: usize,
+            re: f32,
+            im: f32,
+            answer: *mut u8,
+            answer_len: usize,
+        ) -> u8;
+        pub fn kerambiu_receive_squelch(
+            state: *mut u8,
+            state_len: usize,
+            power: f32,
+            answer: *mut u8,
+            answer_len: usize,
+        ) -> u8;
+        pub fn kerambiu_receive_hole(
+            state: *mut u8,
+            state_len: usize,
+            n: u32,
+            answer: *mut u8,
+            answer_len: usize,
+        ) -> u8;
         pub fn kerambiu_receive_points(
             state: *mut u8,
             state_len: usize,
             points: *const i16,
             points_len: usize,
+            line: *mut u8,
+            line_len: usize,
+            plain: *mut u8,
+            plain_len: usize,
+            distance: *mut u32,
+            distance_len: usize,
+        ) -> u8;
+        pub fn kerambiu_receive_level_points(
+            state: *mut u8,
+            state_len: usize,
+            levels: *const f32,
+            levels_len: usize,
             line: *mut u8,
             line_len: usize,
             plain: *mut u8,
@@ -106,6 +140,22 @@ pub fn receive_gap(state: &mut [u8], n: u32, answer: &mut [u8]) -> u8 {
     unsafe { c::kerambiu_receive_gap(state.as_mut_ptr(), state.len(), n, at, len) }
 }
 
+/// A point in levels.
+pub fn receive_levels(state: &mut [u8], re: f32, im: f32, answer: &mut [u8]) -> u8 {
+    let (at, len) = (answer.as_mut_ptr(), answer.len());
+    unsafe { c::kerambiu_receive_levels(state.as_mut_ptr(), state.len(), re, im, at, len) }
+}
+
+pub fn receive_squelch(state: &mut [u8], power: f32, answer: &mut [u8]) -> u8 {
+    let (at, len) = (answer.as_mut_ptr(), answer.len());
+    unsafe { c::kerambiu_receive_squelch(state.as_mut_ptr(), state.len(), power, at, len) }
+}
+
+pub fn receive_hole(state: &mut [u8], n: u32, answer: &mut [u8]) -> u8 {
+    let (at, len) = (answer.as_mut_ptr(), answer.len());
+    unsafe { c::kerambiu_receive_hole(state.as_mut_ptr(), state.len(), n, at, len) }
+}
+
 /// Points are re and im in turn; a byte of line bits, one of data bits and a
 /// distance for each.
 pub fn receive_points(
@@ -121,6 +171,30 @@ pub fn receive_points(
             state.len(),
             points.as_ptr(),
             points.len(),
+            line.as_mut_ptr(),
+            line.len(),
+            plain.as_mut_ptr(),
+            plain.len(),
+            distance.as_mut_ptr(),
+            distance.len(),
+        )
+    }
+}
+
+/// The same for points in levels.
+pub fn receive_level_points(
+    state: &mut [u8],
+    levels: &[f32],
+    line: &mut [u8],
+    plain: &mut [u8],
+    distance: &mut [u32],
+) -> u8 {
+    unsafe {
+        c::kerambiu_receive_level_points(
+            state.as_mut_ptr(),
+            state.len(),
+            levels.as_ptr(),
+            levels.len(),
             line.as_mut_ptr(),
             line.len(),
             plain.as_mut_ptr(),

@@ -2,6 +2,7 @@
 
 use outside::mode::Mode;
 use outside::point::{self, Point};
+use outside::reading::Levels;
 use outside::rng::Rng;
 
 /// The least size of a coordinate on an edge of mode 4.
@@ -68,6 +69,14 @@ pub fn out_of_range(rng: &mut Rng) -> Point {
 
 /// The numbers of some points, re and im in turn.
 pub fn flat(points: &[Point]) -> Vec<i16> {
+    points
+        .iter()
+        .flat_map(|point| [point.re, point.im])
+        .collect()
+}
+
+/// The coordinates of some points in levels, re and im in turn.
+pub fn flat_levels(points: &[Levels]) -> Vec<f32> {
     points
         .iter()
         .flat_map(|point| [point.re, point.im])

@@ -1,9 +1,16 @@
 //! Counts of a comparison: calls by their number, and differences.
 
-/// The highest refusal number and 0, an accepted call.
-const NUMBERS: usize = 18;
+use outside::refusal::ORDER;
+
+/// The refusal numbers and 0, an accepted call.
+const NUMBERS: usize = 1 + ORDER.len();
 /// Differences that are printed in full.
 const SHOWN: u64 = 5;
+
+/// Where a refusal number stands in the order in which they count, 18 after 7.
+fn rank(number: u8) -> Option<usize> {
+    ORDER.iter().position(|&other| other == number)
+}
 
 #[derive(Default)]
 pub struct Tally {
@@ -21,12 +28,13 @@ impl Tally {
         self.counts[usize::from(number)] += 1;
     }
 
-    /// The lowest number of a call's faults is the one that comes, 0 without
-    /// any.
+    /// The lowest number of a call's faults, by the order in which they count, is
+    /// the one that comes, 0 without any.
     pub fn expect_lowest(&mut self, faults: &[u8], number: u8) {
         self.pairs += u64::from(faults.len() > 1);
-        let lowest = faults.iter().min().copied().unwrap_or(0);
-        let highest = faults.iter().max().copied().unwrap_or(0);
+        let numbers = || faults.iter().copied();
+        let lowest = numbers().min_by_key(|&number| rank(number)).unwrap_or(0);
+        let highest = numbers().max_by_key(|&number| rank(number)).unwrap_or(0);
         if faults.len() <= 2 {
             self.faults[usize::from(lowest)][usize::from(highest)] += 1;
         }
@@ -70,9 +78,11 @@ impl Tally {
             let met = self.counts[usize::from(number)] > 0;
             self.check(met, || format!("number {number} was not reached"));
         }
-        let refused: Vec<String> = (1..NUMBERS)
-            .filter(|&number| self.counts[number] > 0)
-            .map(|number| format!("{number}: {}", self.counts[number]))
+        let refused: Vec<String> = ORDER
+            .iter()
+            .map(|&number| (number, self.counts[usize::from(number)]))
+            .filter(|&(_, count)| count > 0)
+            .map(|(number, count)| format!("{number}: {count}"))
             .collect();
         println!(
             "{name}: {} calls, {} accepted, refused {{{}}}, {} with several faults, {} differences",

@@ -3,6 +3,7 @@
 
 mod append;
 mod chain;
+mod levels;
 mod list;
 mod passes;
 mod receive;
@@ -12,6 +13,7 @@ mod sums;
 mod symbol;
 
 pub use append::append_points;
+pub use levels::receive_level_points;
 pub use list::{list, LISTING_ROOM};
 pub use receive::{receive_in_passes, receive_points};
 pub use send::send;

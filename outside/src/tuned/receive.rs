@@ -60,14 +60,25 @@ fn checked<const PASSES: bool>(
     need(count <= left, Refusal::TOO_LONG)?;
     let (line, plain) = (&mut line[..count], &mut plain[..count]);
     let distance = distance.map(|distance| &mut distance[..count]);
-    Ok(match (state.mode, state.role) {
+    Ok(accepted::<PASSES>(state, points, line, plain, distance))
+}
+
+/// Takes points that are not refused, with as much lent as there are points.
+pub(super) fn accepted<const PASSES: bool>(
+    state: Receiver,
+    points: &[i16],
+    line: &mut [u8],
+    plain: &mut [u8],
+    distance: Option<&mut [u32]>,
+) -> Receiver {
+    match (state.mode, state.role) {
         (1, _) => receive::<PASSES, 1, 6>(state, points, line, plain, distance),
         (2, _) => receive::<PASSES, 2, 6>(state, points, line, plain, distance),
         (3, 0) => receive::<PASSES, 3, 18>(state, points, line, plain, distance),
         (3, _) => receive::<PASSES, 3, 5>(state, points, line, plain, distance),
         (_, 0) => receive::<PASSES, 4, 18>(state, points, line, plain, distance),
         (_, _) => receive::<PASSES, 4, 5>(state, points, line, plain, distance),
-    })
+    }
 }
 
 /// Whether all coordinates lie from −16384 to 16384.
@@ -80,7 +91,7 @@ pub(super) fn in_range(points: &[i16]) -> bool {
     least >= -16384 && most <= 16384
 }
 
-/// Takes points that are not refused.
+/// The same for a mode and role.
 fn receive<const PASSES: bool, const MODE: u8, const NEAR: u32>(
     state: Receiver,
     points: &[i16],

@@ -4,9 +4,10 @@ use borrow.Author.Needs.{needs, sfits-of}
 use mathlib.Core.Path.{_≡_, refl}
 use mathlib.Core.Bool.{_&&_}
 use Prim.Native.Nat.{_-_, _≤_}
+use lib.IntN.{pos}
 use lib.ListN.{length, drop}
-use Rattle.line.specs.Point.{coordinatesIn}
-use Rattle.line.proofs.PointLaws.{range-step, range-end}
+use Rattle.line.specs.Point.{coordinateIn, coordinatesIn}
+use Rattle.line.proofs.TableLaws.{every-step, every-end}
 use Rattle.line.proofs.all_in_range.Statement.{statement}
 use Rattle.line.proofs.all_in_range.Tie as tie
 
@@ -38,10 +39,10 @@ loop-again : tie.Need-loop-again Inv-loop μ-loop
 loop-again c =
     let l = c .before .before .before .loop in
     let b = rw (toZ-ofZ (sfits-of {w = w16} (c .before .coordinate-ok-arg .given))) at (c .coordinate-ok .ensures) in
-    (search needs, range-step _ (l .k) (l .all) _ (l .inv .1) (c .before .before .loop-test .taken) b)
+    (search needs, every-step coordinateIn (pos 0) _ (l .k) (l .all) (l .inv .1) _ (c .before .before .loop-test .taken) b)
 
 returns : tie.Need-returns Inv-loop μ-loop
-returns c = range-end _ (c .before .loop .k) (c .before .loop .all) (c .before .loop .inv .1) (c .loop-test .left)
+returns c = every-end coordinateIn (pos 0) _ (c .before .loop .k) (c .before .loop .all) (c .before .loop .inv .1) (c .loop-test .left)
 
 pub all-in-range-spec : {M : Type 1} → statement M
 all-in-range-spec =

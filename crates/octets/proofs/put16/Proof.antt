@@ -1,7 +1,7 @@
 use native.Mathlib.Numerals.{add-one}
 use Rattle.octets.specs.Number.{le16}
 use denote.Ref.{now}
-use Rattle.octets.proofs.Sets.{sets-out}
+use Rattle.line.proofs.Sets.{sets-out}
 use mathlib.Core.Path.{sym}
 use borrow.Author.Needs.{needs}
 use Rattle.octets.proofs.put16.Statement.{statement}

@@ -1,9 +1,9 @@
 use Prim.Native.Nat.{_+_, _%_, _/_}
 use mathlib.Core.Path.{refl}
-use Rattle.octets.proofs.Sets.{sets-then}
+use Rattle.line.proofs.Sets.{sets-then}
 use Rattle.octets.specs.Number.{le16, le32}
 use denote.Ref.{now}
-use Rattle.octets.proofs.Sets.{sets-out}
+use Rattle.line.proofs.Sets.{sets-out}
 use mathlib.Core.Path.{sym}
 use borrow.Author.Needs.{needs}
 use Rattle.octets.proofs.put32.Statement.{statement}

@@ -1,6 +1,6 @@
 use mathlib.Core.List.{[], _∷_}
 use denote.Ref.{now}
-use Rattle.octets.proofs.Sets.{sets-out}
+use Rattle.line.proofs.Sets.{sets-out}
 use mathlib.Core.Path.{sym}
 use borrow.Author.Needs.{needs}
 use Rattle.octets.proofs.put8.Statement.{statement}

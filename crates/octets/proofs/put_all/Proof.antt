@@ -1,5 +1,5 @@
 use Rattle.octets.proofs.Loops.{copy-step, copy-all}
-use Rattle.octets.proofs.Sets.{sets-out}
+use Rattle.line.proofs.Sets.{sets-out}
 use denote.Ref.{now}
 use native.Mathlib.Nat.{add-zero}
 use native.Mathlib.Omega.{arith}

@@ -4,7 +4,8 @@ use mathlib.Core.Path.{sym, _∙_}
 use Rattle.sender.specs.Sender.{senderOf}
 use Rattle.sender.specs.Open.{openRefusal, opened, trainingNumbers, openAnswer, openNumbers}
 use Rattle.sender.proofs.OpenLaws.{open-ok}
-use Rattle.sender.proofs.AnswerLaws.{part-room, call-refused, call-done}
+use Rattle.line.proofs.Sets.{part-room}
+use Rattle.sender.proofs.AnswerLaws.{call-refused, call-done}
 use borrow.Author.Needs.{needs}
 use Rattle.sender.proofs.open.Statement.{statement}
 use Rattle.sender.proofs.open.Tie as tie

@@ -3,7 +3,8 @@ use lib.ListN.{length}
 use mathlib.Core.Path.{sym, _∙_}
 use Rattle.sender.specs.Sender.{sendRefusal, afterBits, bitNumbers, sendAnswer, sendNumbers}
 use Rattle.sender.proofs.RefusalLaws.{send-ok}
-use Rattle.sender.proofs.AnswerLaws.{part-room, call-refused, call-done}
+use Rattle.line.proofs.Sets.{part-room}
+use Rattle.sender.proofs.AnswerLaws.{call-refused, call-done}
 use borrow.Author.Needs.{needs}
 use Rattle.sender.proofs.send.Statement.{statement}
 use Rattle.sender.proofs.send.Tie as tie

@@ -1,17 +1,19 @@
 //! Compares the proved library with the outside implementation: line, receiver,
-//! bulk, store, sender, listing, sums, or all of them where none is named.
+//! bulk, readings, store, sender, listing, sums, or all of them where none is
+//! named.
 
 use std::process::ExitCode;
 
-use compare::{bulk, line, listing, receiving, sending, storing, summing};
+use compare::{bulk, line, listing, readings, receiving, sending, storing, summing};
 
 /// What a name compares; whether there was no difference.
 type Part = (&'static str, fn() -> bool);
 
-const PARTS: [Part; 7] = [
+const PARTS: [Part; 8] = [
     ("line", line::compare),
     ("receiver", || receiving::compare(1_200_000)),
     ("bulk", || bulk::compare(100_000)),
+    ("readings", || readings::compare(1_000_000)),
     ("store", || storing::compare(120_000)),
     ("sender", || sending::compare(200_000)),
     ("listing", || listing::compare(20_000)),

@@ -31,9 +31,12 @@ const STORE_CALLS: [(&str, StoreCall); 5] = [
 /// Times the smallest call of a kind.
 type SmallestCall = fn(Signal) -> [Option<f64>; 3];
 
-const SMALLEST_CALLS: [(&str, SmallestCall); 8] = [
+const SMALLEST_CALLS: [(&str, SmallestCall); 9] = [
     ("receive, bulk, 0 points", |signal| {
-        measure(Blocks::of_one(signal, &[]).work())
+        measure(Blocks::<i16>::of_one(signal, &[]).work())
+    }),
+    ("receive, bulk, levels, 0 points", |signal| {
+        measure(Blocks::<f32>::of_one(signal, &[]).work())
     }),
     ("send, 0 points", |signal| {
         measure(Data::of(signal, 0).work())

@@ -2,9 +2,10 @@
 
 use outside::mode::Mode;
 use outside::point::{self, Point};
+use outside::reading::Levels;
 use outside::rng::Rng;
 
-use crate::points;
+use crate::{floats, points};
 
 const ORIGIN: Point = Point { re: 0, im: 0 };
 /// One point in so many is at the origin where there are any.
@@ -44,4 +45,14 @@ pub fn with_origins(mode: &Mode, count: usize) -> Vec<Point> {
         }
     }
     points
+}
+
+/// Points in levels that are rounded to these, with random digits to the last.
+pub fn in_levels(points: &[Point]) -> Vec<Levels> {
+    let mut rng = Rng::new(11);
+    let mut one = |point: &Point| {
+        let [re, im] = [point.re, point.im].map(|units| floats::rounding_to(&mut rng, units));
+        Levels { re, im }
+    };
+    points.iter().map(&mut one).collect()
 }

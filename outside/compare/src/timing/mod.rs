@@ -10,7 +10,7 @@ mod receiving;
 mod sending;
 mod storing;
 
-use measure::{measure, Work};
+use measure::{measure, Side, Work};
 use table::Table;
 
 use crate::signal::Signal;
@@ -19,7 +19,7 @@ use crate::signal::Signal;
 /// timed with each role; a store's other rows do not depend on the role.
 type Row = (&'static str, fn(&str, Signal), bool);
 
-const ROWS: [Row; 15] = [
+const ROWS: [Row; 17] = [
     ("noise: plain against itself", receiving::noise, true),
     ("receive, single", receiving::single, true),
     (
@@ -48,6 +48,12 @@ const ROWS: [Row; 15] = [
         receiving::bulk_in_passes,
         true,
     ),
+    ("receive, single, levels", receiving::single_levels, true),
+    (
+        "receive, bulk, levels, noisy sent points",
+        receiving::bulk_levels,
+        true,
+    ),
     ("send, 20,000 points", sending::send, true),
     ("open, longest training", sending::open, true),
     ("append, single, full chain", storing::append_single, false),
@@ -57,6 +63,24 @@ const ROWS: [Row; 15] = [
     ("sums, 2,048 records", storing::sums, false),
 ];
 
+/// A row of the table of points in levels and in whole numbers.
+type LevelsRow = (&'static str, fn(&str, Signal));
+
+const LEVELS_ROWS: [LevelsRow; 3] = [
+    (
+        "receive, single, levels and whole",
+        receiving::single_levels_and_whole,
+    ),
+    (
+        "receive, bulk, levels and whole, noisy sent points",
+        receiving::noisy_levels_and_whole,
+    ),
+    (
+        "receive, bulk, levels and whole, random points",
+        receiving::random_levels_and_whole,
+    ),
+];
+
 /// One run: prints the medians of every row whose name contains the word.
 pub fn once(word: &str) {
     for (name, row, each_role) in ROWS {
@@ -64,6 +88,9 @@ pub fn once(word: &str) {
             let timed = Signal::all().filter(|signal| each_role || signal.role == 0);
             timed.for_each(|signal| row(name, signal));
         }
+    }
+    for (name, row) in LEVELS_ROWS.iter().filter(|(name, _)| name.contains(word)) {
+        Signal::with_role_0().for_each(|signal| row(name, signal));
     }
     growing::rows(word);
 }
@@ -81,5 +108,21 @@ fn call_row(name: &str, signal: Signal, units: usize, work: Work) {
             &signal.role.to_string(),
         ],
         &[proved, plain, tuned, ratio(plain), ratio(tuned)],
+    );
+}
+
+/// Measures a row of the table of levels: the library's call of points in levels
+/// and its call of the same points in whole numbers.
+fn levels_row(name: &str, signal: Signal, units: usize, [levels, whole]: [Side; 2]) {
+    let times = measure(Work {
+        proved: levels,
+        plain: Some(whole),
+        tuned: None,
+    });
+    let [levels, whole, _] = times.map(|time| time.map(|ns| ns / units as f64));
+    let ratio = || Some(levels? / whole?);
+    Table::Levels.print_once(
+        &[name, &signal.mode.number.to_string()],
+        &[levels, whole, ratio()],
     );
 }

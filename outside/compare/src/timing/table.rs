@@ -9,19 +9,21 @@ const RUNS: usize = 5;
 #[derive(Clone, Copy, PartialEq)]
 pub enum Table {
     Calls,
+    Levels,
     Blocks,
     Stores,
     Smallest,
 }
 
-use Table::{Blocks, Calls, Smallest, Stores};
+use Table::{Blocks, Calls, Levels, Smallest, Stores};
 
 impl Table {
-    const ALL: [Table; 4] = [Calls, Blocks, Stores, Smallest];
+    const ALL: [Table; 5] = [Calls, Levels, Blocks, Stores, Smallest];
 
     fn name(self) -> &'static str {
         match self {
             Calls => "calls",
+            Levels => "levels",
             Blocks => "blocks",
             Stores => "stores",
             Smallest => "smallest",
@@ -31,6 +33,9 @@ impl Table {
     fn title(self) -> &'static str {
         match self {
             Calls => "Calls",
+            Levels => {
+                "Points in levels and the same in whole numbers, both by the proved library, role 0"
+            }
             Blocks => "How time grows: receive_points, noisy sent points, role 0",
             Stores => "How time grows: stores of mode 4, filled with points",
             Smallest => "The smallest calls: what a call takes however little it does",
@@ -49,6 +54,10 @@ impl Table {
                     "proved : plain",
                     "proved : tuned",
                 ],
+            ),
+            Levels => (
+                &["call", "mode"],
+                &["levels, ns a point", "whole, ns a point", "levels : whole"],
             ),
             Blocks => (
                 &["mode", "points"],

@@ -1,12 +1,14 @@
 -- Laws of `sets`, a run of stores into a list. Assumes nothing.
 use mathlib.Core.Path.{_≡_, refl, sym, ap, _∙_}
 use mathlib.Core.Logic.{_⊎_, inl, inr}
-use mathlib.Core.List.{List, [], _∷_, _++_}
-use Prim.Native.Nat.{ℕ, zero, suc, _+_, _≤_, _<_}
-use native.Mathlib.Nat.{add-suc, suc-add}
+use mathlib.Core.List.{List, [], _∷_, _++_, append-nil}
+use Prim.Native.Nat.{ℕ, zero, suc, _+_, _-_, _≤_, _<_}
+use native.Mathlib.Nat.{add-suc, suc-add, not-suc-le-zero, le-of-suc-le-suc}
 use native.Mathlib.Omega.{arith}
-use lib.ListN.{length, getD, set, take, drop, length-set}
-use lib.Seq.{sets, take-set-le, drop-set-lt, take-set-lt, drop-set-add, getD-set-same, getD-set-other, set-set, set-comm, set-out}
+use borrow.Rule.Slice.PartMut.{putMid, post-is}
+use borrow.Rule.Slice.PartAt.{part-to-end}
+use lib.ListN.{length, getD, set, take, drop, length-set, length-drop}
+use lib.Seq.{drop-length, sets, take-set-le, drop-set-lt, take-set-lt, drop-set-add, getD-set-same, getD-set-other, set-set, set-comm, set-out}
 
 module _ {A : Type 0} where
   pub take-sets-le : (vs l : List A) (n i : ℕ) → n ≤ i → take n (sets l i vs) ≡ take n l
@@ -45,16 +47,16 @@ module _ {A : Type 0} where
       ap (λ (m : ℕ). getD (sets (set l i v) (suc i) vs) m d) (add-suc i k ∙ sym (suc-add i k))
       ∙ getD-sets-in vs (set l i v) (suc i) k d (omega arith) (simp length-set (omega arith))
 
+  sets-cons : (x : A) (l : List A) (i : ℕ) (vs : List A) → sets (x ∷ l) (suc i) vs ≡ x ∷ sets l i vs
+  sets-cons x l i [] = refl
+  sets-cons x l i (v ∷ vs) = sets-cons x (set l i v) (suc i) vs
+
   -- a whole list written over one as long
   pub sets-whole : (vs l : List A) → length vs ≡ length l → sets l 0 vs ≡ vs
   sets-whole [] [] e = refl
   sets-whole [] (y ∷ ys) e = absurd (omega arith)
   sets-whole (v ∷ vs) [] e = absurd (omega arith)
-  sets-whole (v ∷ vs) (y ∷ ys) e = sets-cons vs ys v 0 ∙ ap (λ (r : List A). v ∷ r) (sets-whole vs ys (omega arith))
-    where
-      sets-cons : (vs ys : List A) (v : A) (i : ℕ) → sets (v ∷ ys) (suc i) vs ≡ v ∷ sets ys i vs
-      sets-cons [] ys v i = refl
-      sets-cons (w ∷ ws) ys v i = sets-cons ws (set ys i w) v (suc i)
+  sets-whole (v ∷ vs) (y ∷ ys) e = sets-cons v ys 0 vs ∙ ap (λ (r : List A). v ∷ r) (sets-whole vs ys (omega arith))
 
   -- one run after another
   pub sets-then : (u v l : List A) (i j : ℕ) → i + length u ≡ j → sets (sets l i u) j v ≡ sets l i (u ++ v)
@@ -88,3 +90,17 @@ module _ {A : Type 0} where
   pub sets-out : (vs l : List A) (i : ℕ) → length l ≤ i → sets l i vs ≡ l
   sets-out [] l i h = refl
   sets-out (v ∷ vs) l i h = ap (λ (k : List A). sets k (suc i) vs) (set-out l i v h) ∙ sets-out vs l (suc i) (omega arith)
+
+  -- A LENT PART, from a place to the end: what is written from its front is written in the whole from there on
+
+  sets-drop : (l : List A) (a : ℕ) (vs : List A) → a ≤ length l → take a l ++ sets (drop a l) 0 vs ≡ sets l a vs
+  sets-drop l zero vs h = refl
+  sets-drop [] (suc a) vs h = absurd (not-suc-le-zero h)
+  sets-drop (x ∷ l) (suc a) vs h = rw (sets-drop l a vs (le-of-suc-le-suc h), sets-cons)
+
+  pub sets-part : (l : List A) (a : ℕ) (vs : List A) → a ≤ length l → putMid a (length l - a) l (sets (take (length l - a) (drop a l)) 0 vs) ≡ sets l a vs
+  sets-part l a vs h = rw (part-to-end l a, post-is a (length l) l h, drop-length l, append-nil (sets (drop a l) 0 vs)) (sets-drop l a vs h)
+
+  -- what fits from the place on fits into the part
+  pub part-room : (l : List A) (a n : ℕ) → a + n ≤ length l → n ≤ length (take (length l - a) (drop a l))
+  part-room l a n h = rw (part-to-end l a, length-drop) (omega arith)
