@@ -5,8 +5,8 @@ use mathlib.Core.Bool.{Bool, true, false, cond, not}
 use native.Mathlib.Nat.{not-suc-le-zero, le-of-suc-le-suc, mul-one, mul-assoc, mul-comm, le-div-iff-mul-le, le-trans, mul-le-mul, le-add-right, mul-le-mul-right, mul-right-comm, div-mul-le-self}
 use native.Mathlib.Omega.{arith}
 use borrow.Author.Tests.{leb-true}
-use mathlib.Core.Logic.{_⊎_, inl, inr, ⊎-elim}
-use lib.Dec.{T, eqb, leb, lit≤, eqb→eq}
+use mathlib.Core.Logic.{_⊎_, ⊎-elim}
+use lib.Dec.{T, eqb, leb, lit≤}
 use lib.IntN.{ℤ, pos, negsuc, natAbs, negℤ}
 use lib.Pow.{pow-add, pow-pos, pow-mono, shl-lt, shl-exact}
 use lib.Ieee.{Float, nan, inf, fin, up, down, binary32, odd, ofFields, ofBits, toBits, fits, ne, isNan}

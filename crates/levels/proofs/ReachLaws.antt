@@ -1,5 +1,5 @@
 -- Two comparisons with 16384.5 / 1024 say whether a coordinate is refused. Assumes nothing.
-use Prim.Native.Nat.{ℕ, zero, suc, _+_, _*_, _<_, _≤_}
+use Prim.Native.Nat.{ℕ, suc, _+_, _*_, _<_, _≤_}
 use mathlib.Core.Path.{_≡_, refl, sym, ap, ap₂, _∙_, subst}
 use mathlib.Core.Bool.{Bool, true, false, _&&_, _||_, and-true}
 use mathlib.Core.Logic.{⊎-elim}
@@ -14,7 +14,7 @@ use lib.Ieee.Nearest.{closest, closest-mono}
 use Rattle.line.proofs.Tests.{lt-or-ge}
 use Rattle.line.proofs.TableLaws.{is-true, no-so}
 use Rattle.levels.specs.Levels.{isFinite, rounded, inReach}
-use Rattle.levels.proofs.NearestLaws.{order, Half, within-half}
+use Rattle.levels.proofs.NearestLaws.{order, within-half}
 use Rattle.levels.proofs.SignLaws.{abs-negated}
 use Rattle.levels.proofs.FieldLaws.{down-positive}
 

@@ -1,17 +1,16 @@
 -- A turn of 90° before or after rounding, and what it does to a sign bit and to a NaN. Assumes nothing.
 use Prim.Native.Nat.{ℕ, zero, suc, _+_, _*_, _-_, _/_, _%_, _^_, _<_}
-use mathlib.Core.Path.{_≡_, refl, sym, ap, _∙_, subst}
+use mathlib.Core.Path.{_≡_, refl, ap}
 use mathlib.Core.Bool.{Bool, true, false, not, cond}
 use native.Mathlib.Nat.{add-assoc}
 use native.Mathlib.Omega.{arith}
 use lib.Dec.{T}
-use lib.IntN.{ℤ, pos, negℤ}
+use lib.IntN.{ℤ, negℤ}
 use lib.Ieee.{Float, nan, inf, fin, up, down, binary32, size, neg, fits, isNan, toBits}
 use lib.Ieee.Bits.{toBits-lt}
 use lib.Ieee.Nearest.{closest}
-use Rattle.line.specs.Point.{at, turned}
-use Rattle.levels.specs.declared.Levels.{Levels}
-use Rattle.levels.specs.Levels.{isFinite, rounded, pointOf, turnedLevels}
+use Rattle.line.specs.Point.{at}
+use Rattle.levels.specs.Levels.{isFinite, rounded}
 use Rattle.levels.specs.Laws.{Turns}
 use Rattle.levels.proofs.SignLaws.{sign-flipped}
 

@@ -1,5 +1,5 @@
 -- Points in levels: the number that refuses one, and a run of them put into units and heard. Assumes nothing.
-use Prim.Native.Nat.{ℕ, zero, suc, _+_, _*_, _-_, _/_, _%_, _<_, _≤_, min}
+use Prim.Native.Nat.{ℕ, suc, _+_, _*_, _-_, _/_, _%_, _<_, _≤_, min}
 use mathlib.Core.Path.{_≡_, refl, sym, ap, ap₂, _∙_, subst}
 use mathlib.Core.Bool.{Bool, true, false, _&&_}
 use mathlib.Core.List.{List, [], _∷_, _++_, map, map-append}
@@ -7,7 +7,7 @@ use native.Mathlib.Nat.{min-le-left, min-le-right, le-min}
 use native.Mathlib.Omega.{arith}
 use borrow.Author.Tests.{eq-eqb, le-leb}
 use lib.Dec.{T}
-use lib.IntN.{ℤ, pos}
+use lib.IntN.{ℤ}
 use lib.Ieee.{Float, nan}
 use borrow.Rule.Slice.PartMut.{putMid}
 use lib.ListN.{length, getD, set, take, drop, length-set, length-drop, length-map, drop-of-length-le}
@@ -17,12 +17,12 @@ use mir.Val.{toZ, ofZ}
 use mir.Facts.{toZ-ofZ}
 use Rattle.line.specs.Table.{every}
 use Rattle.line.specs.declared.Point.{Point}
-use Rattle.line.specs.Point.{at, pairs, coordinateIn, coordinatesIn}
+use Rattle.line.specs.Point.{pairs, coordinateIn, coordinatesIn}
 use Rattle.line.specs.Refusal.{need, accepted}
 use Rattle.line.proofs.RefusalLaws.{next-first}
 use Rattle.line.proofs.PointLaws.{pairs-length, pairs-split}
 use Rattle.line.proofs.Sets.{sets-then, sets-part, part-room}
-use Rattle.line.proofs.TableLaws.{and-left, and-right, and-intro, map-take, map-drop}
+use Rattle.line.proofs.TableLaws.{and-intro, map-take, map-drop}
 use Rattle.levels.specs.Levels.{isFinite, rounded, inReach}
 use Rattle.levels.proofs.RoundsProof.{reach-fits}
 use Rattle.receiver.specs.declared.Receiver.{Receiver}

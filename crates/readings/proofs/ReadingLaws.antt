@@ -10,7 +10,6 @@ use mir.Syntax.{w16}
 use mir.Val.{toZ, ofZ}
 use mir.Facts.{toZ-ofZ}
 use Rattle.line.specs.declared.Point.{Point}
-use Rattle.line.specs.Mode.{width}
 use Rattle.line.specs.Point.{at, inRange}
 use Rattle.line.specs.Refusal.{need, orNext, accepted}
 use Rattle.line.proofs.Tests.{cond-true, cond-false, by-test, and-split, and-join}
@@ -21,9 +20,9 @@ use Rattle.levels.proofs.RoundsProof.{judged-rounded, reach-fits}
 use Rattle.receiver.specs.declared.Receiver.{Receiver}
 use Rattle.receiver.specs.declared.Outcome.{Outcome}
 use Rattle.receiver.specs.declared.Outcome.the-variants.{Refused}
-use Rattle.receiver.specs.Receiver.{Event, point, gap, Answer, refused, stateRefusal, eventRefusal, refusal, eventAnswer, answer, intervals, placeAfter, eventNext, next}
+use Rattle.receiver.specs.Receiver.{Event, point, gap, refused, stateRefusal, eventRefusal, refusal, eventAnswer, answer, intervals, placeAfter, eventNext, next}
 use Rattle.receiver.specs.Outcome as Receiving
-use Rattle.receiver.specs.Outcome.{answerOf, stateOf, placeOf, eventOutcome, outcome}
+use Rattle.receiver.specs.Outcome.{eventOutcome, outcome}
 use Rattle.readings.specs.declared.Reading.{Reading}
 use Rattle.readings.specs.declared.Reading.the-variants.{Point as InLevels, Squelch, Hole}
 use Rattle.readings.specs.declared.Units.{Units}

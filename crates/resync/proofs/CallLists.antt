@@ -1,20 +1,19 @@
 -- A list of calls is the list of its single events. Assumes nothing.
 use Prim.Native.Nat.{ℕ, zero, suc}
-use mathlib.Core.Path.{_≡_, refl, sym, _∙_, ap, ap₂, subst}
+use mathlib.Core.Path.{_≡_, refl, sym, _∙_, ap, ap₂}
 use mathlib.Core.Bool.{true, _&&_}
-use mathlib.Core.List.{List, [], _∷_, _++_, map, append-nil}
+use mathlib.Core.List.{List, [], _∷_, _++_, map}
 use lib.Dec.{T}
 use lib.Ieee.{Float}
-use Rattle.line.specs.declared.Point.{Point}
-use Rattle.line.specs.Point.{at, pairs}
+use Rattle.line.specs.Point.{pairs}
 use Rattle.line.specs.Table.{every}
-use Rattle.line.specs.Refusal.{need, accepted}
+use Rattle.line.specs.Refusal.{accepted}
 use Rattle.line.proofs.RefusalLaws.{need-met, next-rest}
 use Rattle.line.proofs.TableLaws.{is-true, and-left, and-right, and-intro}
 use Rattle.levels.specs.Levels.{isFinite, rounded}
 use Rattle.receiver.specs.declared.Receiver.{Receiver}
-use Rattle.receiver.specs.Receiver.{Event, point, stateRefusal, eventRefusal, refusal, eventAnswer, answer, eventNext, next}
-use Rattle.receiver.specs.Calls.{after, EachAccepted, Heard, heard}
+use Rattle.receiver.specs.Receiver.{Event, point, stateRefusal, eventRefusal, eventNext, next}
+use Rattle.receiver.specs.Calls.{after, EachAccepted, heard}
 use Rattle.receiver.proofs.CallLaws.{after-append, heard-append, heard-accepted}
 use Rattle.bulk.specs.declared.Block.the-variants.{Refused as NotTaken, Taken}
 use Rattle.bulk.specs.Block.{Given, inLevels, pointsOf, Lent, blockRefusal, stateOf, block}

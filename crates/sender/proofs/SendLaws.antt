@@ -1,7 +1,6 @@
 -- Sending groups: one turn of the point writer's loop, and what a lent part becomes. Assumes nothing.
 use Prim.Native.Nat.{ℕ, zero, suc, _+_, _*_, _-_, _%_, _<_, _≤_}
 use mathlib.Core.Path.{_≡_, refl, sym, _∙_, ap, ap₂}
-use mathlib.Core.Bool.{Bool}
 use mathlib.Core.List.{List, [], _∷_}
 use native.Mathlib.Numerals.{sub-one, towards-suc}
 use native.Mathlib.Nat.{suc-mul, lt-irrefl, add-sub-cancel-left}
