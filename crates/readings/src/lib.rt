@@ -36,7 +36,7 @@ pub enum Units {
     Gap(u32),
 }
 
-// A size less 2^-12 levels, as bit patterns without digits; 0 for a smaller one.
+// How far an exponent's field, in its place in the pattern, is above that of 2^-12 levels, a quarter of a unit; 0 for a smaller size.
 fn above(field: u32) -> u32
     ensures { λ r. ⌜ r ≡ field - 964689920 ⌝ }
 {
