@@ -4,3 +4,4 @@ pub mod ReachLaws
 pub mod SignLaws
 pub mod RoundsProof
 pub mod TurnsProof
+pub mod WorkedProof

@@ -1,10 +1,10 @@
--- Document 02, R-3: what is said of the rounded number, for every finite single, however large. Proved in proofs/RoundsProof and proofs/TurnsProof.
+-- Document 02, R-3: what is said of the rounded number, for every finite single, however large. Proved in proofs/RoundsProof, proofs/TurnsProof and proofs/WorkedProof.
 use Prim.Native.Nat.{ℕ, _+_, _*_, _%_, _≤_}
 use mathlib.Core.Path.{_≡_}
-use mathlib.Core.Bool.{true, not}
+use mathlib.Core.Bool.{true, false, not}
 use lib.Dec.{T}
-use lib.IntN.{ℤ, pos, natAbs, _-ℤ_, _*ℤ_}
-use lib.Ieee.{Float, nan, inf, fin, up, down, binary32, neg, fits, isNan, toBits}
+use lib.IntN.{ℤ, pos, negsuc, natAbs, _-ℤ_, _*ℤ_}
+use lib.Ieee.{Float, nan, inf, fin, up, down, binary32, neg, fits, isNan, ofBits, toBits}
 use Rattle.line.specs.Point.{coordinateIn, turned}
 use Rattle.levels.specs.declared.Levels.{Levels}
 use Rattle.levels.specs.Levels.{isFinite, withSign, rounded, pointOf, turnedLevels, inReach}
@@ -53,3 +53,21 @@ pub record Turns : Type 0 where
   -- a NaN stays one, and what number 18 refuses before a turn it refuses after it
   pub of-nan : neg nan ≡ nan
   pub refused-alike : (v : Float) → isFinite (neg v) ≡ isFinite v
+
+-- WORKED VALUES, from the bits of singles
+
+abbrev pub unitsOfBits : ℕ → ℤ
+unitsOfBits b = rounded (ofBits binary32 b)
+
+pub record Worked : Type 0 where
+  -- 16384.5 units tie to 16384; the next single up rounds to 16385
+  pub most : (unitsOfBits 0x41800100 ≡ pos 16384) × (inReach (ofBits binary32 0x41800100) ≡ true)
+  pub next-up : (unitsOfBits 0x41800101 ≡ pos 16385) × (inReach (ofBits binary32 0x41800101) ≡ false)
+  -- half a unit ties to 0, the next single up rounds to 1; one and a half tie to 2
+  pub half-unit : (unitsOfBits 0x3a000000 ≡ pos 0) × (unitsOfBits 0x3a000001 ≡ pos 1) × (unitsOfBits 0x3ac00000 ≡ pos 2)
+  -- a negative zero is zero, the least subnormal rounds to it, and -1.0 is -1024
+  pub zeros : (unitsOfBits 0x80000000 ≡ pos 0) × (unitsOfBits 1 ≡ pos 0) × (unitsOfBits 0xbf800000 ≡ negsuc 1023)
+  -- infinities and NaNs, quiet and signalling
+  pub not-finite : (isFinite (ofBits binary32 0x7f800000) ≡ false) × (isFinite (ofBits binary32 0xff800000) ≡ false) × (isFinite (ofBits binary32 0x7fc00000) ≡ false) × (isFinite (ofBits binary32 0x7f800001) ≡ false)
+  -- the greatest finite single is one
+  pub greatest : isFinite (ofBits binary32 0x7f7fffff) ≡ true
