@@ -41,7 +41,9 @@
  * and im, 1024 to one level. A state of modes 1 and 2 is 0 to 7, at 45 degrees times the number (even ones only in mode 1); of
  * modes 3 and 4 it is the bits Y1 Y2 Q3 Q4 as a number, Y1 highest (1, 5, 9 and 13 only in mode 3).
  *
- * A point in levels has floats of 32 bits (IEEE 754) for coordinates: 1.0 is one level, 1024 units. Each becomes the whole
+ * A point in levels has floats of 32 bits (IEEE 754) for coordinates: 1.0 is one level, 1024 units. Points of modes 1 and 2
+ * are sent 4.0 levels from the origin, those of modes 3 and 4 have coordinates of 1.0 and 3.0; another scale is not refused, but
+ * in mode 4 it gives wrong bits, since sizes are compared with 2.0 levels there. Each coordinate becomes the whole
  * number nearest 1024 times it, of two equally near ones the even one, so that it is never more than half a unit away; from
  * there on the point is that of the two whole numbers, also in its distance. Range is judged after rounding: 16.00048828125 is
  * 16384.5 units, becomes 16384 and is in range; the next greater float is not. A point with both coordinates of half a unit at
