@@ -1,5 +1,5 @@
 //! The line recorder's symbol codec in plain Rust, written from document 01
-//! (`01-scope.md`), requests of document 02
+//! (`01-scope.md`), requests of document 02
 //! (`02-change-requests.md`) and Recommendations V.27 ter (000) and V.32 (001).
 //!
 //! It is the outside implementation that the proved one is compared with.
@@ -7,6 +7,7 @@
 //! states and buffers as they were.
 
 pub mod code;
+pub mod image;
 pub mod limits;
 pub mod listing;
 pub mod mode;

@@ -239,3 +239,15 @@ fn quadrants_turn_as_document_01_says() {
         assert_eq!(code::next_state(&MODES[2], from, dibit), to);
     }
 }
+
+/// the turn from Q1 Q2 added to the place of Y1 Y2 in the ring.
+#[test]
+fn table_1_is_a_turn_added_to_a_place() {
+    let ring = [0b00, 0b01, 0b11, 0b10];
+    let turns = [1, 0, 2, 3];
+    let place = |y: u8| ring.iter().position(|&other| other == y).unwrap();
+    for (dibit, before, after) in code::QUADRANT_CODE {
+        let turned = (turns[usize::from(dibit)] + place(before)) % 4;
+        assert_eq!(ring[turned], after);
+    }
+}

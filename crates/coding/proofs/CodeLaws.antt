@@ -2,14 +2,18 @@
 use mathlib.Core.Path.{_≡_, sym, ap, ap₂, _∙_}
 use Prim.Native.Nat.{ℕ, _+_, _*_, _-_, _/_, _%_, _<_, _≤_}
 use native.Mathlib.Omega.{arith}
-use mathlib.Core.Bool.{Bool, cond}
-use lib.Dec.{eqb, eqb→eq}
+use mathlib.Core.Bool.{Bool, true, cond}
+use mathlib.Core.List.{List, [], _∷_}
+use lib.Bits.{bitXor}
+use lib.Dec.{T, eqb, eqb→eq, ltb, ltb→lt}
 use lib.ListN.{getD}
 use Rattle.line.specs.Table.{entry, rowFrom, firstRow}
 use Rattle.line.specs.Mode.{face, quadrant}
 use Rattle.coding.specs.Code.{changes4, changes8, changes16, coded, eighths, turnRow, group}
 use Rattle.line.proofs.ByMode.{mode-1, mode-2, mode-3, mode-4}
-use Rattle.line.proofs.TableLaws.{below-at, pairs-below, row-below}
+use Rattle.line.proofs.TableLaws.{below-at, row-below, all, test-at}
+use Rattle.coding.specs.Rule.{place, turnsFor}
+use Rattle.coding.proofs.ModeLaws.{by-rule}
 
 module _ (m x g : ℕ) where
   pub coded-1 : (c : ℕ) → m ≤ 1 → c ≡ entry changes4 g → (x % 8 + 2 * c) % 8 ≡ coded m (face m x) g
@@ -68,16 +72,29 @@ row8-law x a b c d e f g h pa pb pc pd pe pf pg =
     ∙ eqb→eq _ _ (below-at (λ y. eqb (if-row 0 y 1 + if-row 2 y 2 + if-row 3 y 3 + (if-row 6 y 4 + if-row 7 y 5) + if-row 5 y 6 + if-row 4 y 7)
     (firstRow (λ i. eqb (entry changes8 i) y) 7)) 8 tt x h))
 
-pub row16-law : (y z a b c : ℕ) → y < 4 → z < 4 → a ≡ if-row (getD changes16 (4 + y) 0) z 1 → b ≡ if-row (getD changes16 (8 + y) 0) z 2
-    → c ≡ if-row (getD changes16 (12 + y) 0) z 3 → (a + b + c ≡ turnRow y z) × (a + b + c ≤ 3)
-unfolding entry rowFrom changes16 turnRow
-row16-law y z a b c h k p q r =
-    found _ 3 (λ g. eqb (entry changes16 (4 * g + y)) z)
-    (ap₂ (λ (i j : ℕ). i + j) (ap₂ (λ (i j : ℕ). i + j) p q) r
-    ∙ eqb→eq _ _ (pairs-below sum 4 4 tt y z h k))
+-- the rule of 001's table 1, as the code computes it: one computed test for the xors, and `by-rule` for the rows
+abbrev Xors : ℕ → Type 0
+Xors y = (bitXor y (y / 2) ≡ place y) × (bitXor (bitXor y (y / 2)) 1 ≡ turnsFor y) × (place y < 4) × (turnsFor y < 4)
+
+pub xors : (y : ℕ) → y < 4 → Xors y
+unfolding place turnsFor
+xors y h =
+    let at : (i : ℕ) → T (getD (tests y) i true) = λ i. test-at (tests y) i (below-at (λ z. all (tests z)) 4 tt y h) in
+    (eqb→eq _ _ (at 0), eqb→eq _ _ (at 1), ltb→lt _ _ (at 2), ltb→lt _ _ (at 3))
   where
-    sum : ℕ → ℕ → Bool
-    sum u v = eqb (if-row (getD changes16 (4 + u) 0) v 1 + if-row (getD changes16 (8 + u) 0) v 2 + if-row (getD changes16 (12 + u) 0) v 3) (turnRow u v)
+    tests : ℕ → List Bool
+    tests z = eqb (bitXor z (z / 2)) (place z) ∷ eqb (bitXor (bitXor z (z / 2)) 1) (turnsFor z) ∷ ltb (place z) 4 ∷ ltb (turnsFor z) 4 ∷ []
+
+pub any-row : (q y : ℕ) → entry changes16 (4 * (q % 4) + y) ≡ entry changes16 (4 * q + y)
+unfolding entry changes16
+any-row q y = ap (λ (i : ℕ). getD changes16 i 0) (let e : (4 * (q % 4) + y) % 16 ≡ (4 * q + y) % 16 = omega arith in e)
+
+pub change16-law : (q y t p r : ℕ) → y < 4 → t ≡ turnsFor (q % 4) → p ≡ place y → r ≡ place ((t + p) % 4) → r ≡ entry changes16 (4 * q + y)
+change16-law q y t p r h et ep er =
+    er ∙ ap₂ (λ (i j : ℕ). place ((i + j) % 4)) et ep ∙ by-rule (q % 4) y (omega arith) h .turned ∙ any-row q y
+
+pub row16-law : (y z a b r : ℕ) → y < 4 → z < 4 → b ≡ place z → a ≡ place y → r ≡ turnsFor ((b + 4 - a) % 4) → r ≡ turnRow y z
+row16-law y z a b r hy hz eb ea er = er ∙ ap₂ (λ (i j : ℕ). turnsFor ((i + 4 - j) % 4)) eb ea ∙ by-rule y z hy hz .found
 
 module _ (m x s : ℕ) where
   abbrev turn8 : ℕ

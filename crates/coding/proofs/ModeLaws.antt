@@ -1,5 +1,5 @@
 -- The finite facts of the code, read off one computed test over modes, pairs of states and groups. Assumes nothing.
-use Prim.Native.Nat.{ℕ, _+_, _*_, _-_, _^_}
+use Prim.Native.Nat.{ℕ, _+_, _*_, _-_, _%_, _^_}
 use mathlib.Core.Path.{sym}
 use mathlib.Core.Bool.{Bool, true, _&&_}
 use mathlib.Core.List.{List, [], _∷_}
@@ -8,6 +8,7 @@ use lib.ListN.{getD}
 use Rattle.line.specs.Table.{entry, rowFrom, below, every}
 use Rattle.line.specs.Mode.{isMode, width, step, states, isState, quadrant, nextQuadrant, turn, turns, wholeSteps, face}
 use Rattle.coding.specs.Code.{changes4, changes8, changes16, coded, eighths, turnRow, group}
+use Rattle.coding.specs.Rule.{place, turnsFor, TableByRule}
 use Rattle.coding.specs.Laws.{quarterTurns, turnsOf, TableTurns, EachPair, EachGroup}
 use Rattle.line.proofs.TableLaws.{and-left, and-right, below-at, pairs-below, all, test-at}
 use Rattle.line.proofs.StateLaws.{mode-cases, state-at}
@@ -58,3 +59,14 @@ pub table-turns : TableTurns
 unfolding changes16 nextQuadrant turnsOf
 table-turns q y hq hy =
     eqb→eq _ _ (pairs-below (λ i j. eqb (getD changes16 (4 * i + j) 0) (quarterTurns (getD turnsOf i 0) j)) 4 4 tt q y hq hy)
+
+-- and their rule, both ways
+ruleTests : ℕ → ℕ → List Bool
+ruleTests a b =
+    eqb (place ((turnsFor a + place b) % 4)) (entry changes16 (4 * a + b)) ∷ eqb (turnsFor ((place b + 4 - place a) % 4)) (turnRow a b) ∷ []
+
+pub by-rule : TableByRule
+unfolding ruleTests place turnsFor entry changes16 rowFrom turnRow
+by-rule a b ha hb =
+    let at : (i : ℕ) → T (getD (ruleTests a b) i true) = λ i. test-at (ruleTests a b) i (pairs-below (λ i j. all (ruleTests i j)) 4 4 tt a b ha hb) in
+    record { turned = eqb→eq _ _ (at 0); found = eqb→eq _ _ (at 1) }

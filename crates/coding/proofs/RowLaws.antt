@@ -1,12 +1,12 @@
 -- A group is found by its row. Assumes nothing.
-use mathlib.Core.Path.{_≡_, refl, sym, ap, ap₂, _∙_}
+use mathlib.Core.Path.{_≡_, refl, sym, ap, ap₂, _∙_, subst}
 use mathlib.Core.List.{List}
 use Prim.Native.Nat.{ℕ, zero, suc, _+_, _*_, _-_, _/_, _%_, _<_, _≤_}
 use native.Mathlib.Omega.{arith}
 use lib.Dec.{eqb}
 use lib.ListN.{getD}
 use Rattle.line.specs.Table.{entry, firstRow}
-use Rattle.line.specs.Mode.{face, quadrant}
+use Rattle.line.specs.Mode.{byMode, face, quadrant}
 use Rattle.line.proofs.ByMode.{mode-4, by-all}
 use Rattle.line.proofs.TableLaws.{row-below}
 use Rattle.coding.specs.Code.{changes4, changes8, changes16, eighths, turnRow, group}
@@ -51,17 +51,39 @@ module _ (x s : ℕ) where
       ∙ (let e : 4 * turnRow (both / 4 % 4) (both % 4) % 16 + s % 4 ≡ 4 * turnRow (both / 4 % 4) (both % 4) + s % 4 = omega arith in e)
       ∙ group-4 m x s _ (omega arith) f g row-3
 
+-- a column of mode 4 alone
+pub below-4 : {A : Type 0} (a d : A) (m : ℕ) → m ≤ 3 → byMode m a a a d ≡ a
+below-4 a d zero h = refl
+below-4 a d (suc zero) h = refl
+below-4 a d (suc (suc zero)) h = refl
+below-4 a d (suc (suc (suc zero))) h = refl
+below-4 a d (suc (suc (suc (suc n)))) h = absurd (omega arith)
+
+pub from-4 : {A : Type 0} (a d : A) (m : ℕ) → 3 < m → byMode m a a a d ≡ d
+from-4 a d m h = mode-4 a a a d m (omega arith) (λ e. omega arith) (λ e. omega arith)
+
 pub row-alone : (m row s : ℕ) → m ≤ 3 → row ≡ withRow m row s
 unfolding withRow
-row-alone zero row s h = refl
-row-alone (suc zero) row s h = refl
-row-alone (suc (suc zero)) row s h = refl
-row-alone (suc (suc (suc zero))) row s h = refl
-row-alone (suc (suc (suc (suc n)))) row s h = absurd (omega arith)
+row-alone m row s h = sym (below-4 row (row % 16 + s % 4) m h)
 
 pub row-and-low : (m row s : ℕ) → 3 < m → row % 16 + s % 4 ≡ withRow m row s
 unfolding withRow
-row-and-low m row s h = sym (mode-4 _ _ _ _ m (omega arith) (λ e. omega arith) (λ e. omega arith))
+row-and-low m row s h = sym (from-4 row (row % 16 + s % 4) m h)
+
+-- a row in its unit
+pub in-unit-most : (m u r : ℕ) → u ≡ byMode m 1 1 1 4 → r ≤ 3 → u * r ≤ 12
+in-unit-most m u r e h =
+    subst (λ (v : ℕ). v * r ≤ 12) (sym e) (by-all (λ (v : ℕ). v * r ≤ 12) 1 1 1 4 (omega arith) (omega arith) (omega arith) (omega arith) m)
+
+pub row-in-unit : (m i u r : ℕ) → 1 < m → (m ≡ 2 → ⊥) → u ≡ byMode m 1 1 1 4 → r ≡ turnRow (i / 4 % 4) (i % 4) → u * r ≡ rowAt m i
+unfolding rowAt
+row-in-unit zero i u r h f e k = absurd (omega arith)
+row-in-unit (suc zero) i u r h f e k = absurd (omega arith)
+row-in-unit (suc (suc zero)) i u r h f e k = absurd (f refl)
+row-in-unit (suc (suc (suc zero))) i u r h f e k = ap₂ (λ (a b : ℕ). a * b) e k ∙ (let z : 1 * turnRow (i / 4 % 4) (i % 4) ≡ turnRow (i / 4 % 4) (i % 4) = omega arith in z)
+row-in-unit (suc (suc (suc (suc n)))) i u r h f e k =
+    let m : ℕ = suc (suc (suc (suc n))) in
+    ap₂ (λ (a b : ℕ). a * b) (e ∙ from-4 1 4 m (omega arith)) k ∙ sym (mode-4 _ _ _ _ m (omega arith) (λ d. omega arith) (λ d. omega arith))
 
 pub index-small : (m x s : ℕ) → rowIndex m x s < 16
 unfolding rowIndex eighths quadrant

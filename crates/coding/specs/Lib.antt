@@ -1,3 +1,4 @@
 pub mod Code
+pub mod Rule
 pub mod Rows
 pub mod Laws

@@ -5,17 +5,16 @@ ghost use Prim.Native.Nat.{_+_, _*_, _≤_, _<_};
 ghost use lib.Dec.{eqb};
 ghost use lib.ListN.{getD};
 ghost use Rattle.line.specs.Table.{entry, firstRow};
-ghost use Rattle.line.specs.Mode.{face};
+ghost use Rattle.line.specs.Mode.{byMode, face};
 ghost use Rattle.coding.specs.Code.{changes4, changes8, changes16, coded, turnRow, group};
+ghost use Rattle.coding.specs.Rule.{place, turnsFor};
 ghost use Rattle.coding.specs.Rows.{rowIndex, rowAt, withRow, Rows};
 
-// 000's tables 2 and 1: the changes of 2 and of 3 bits, in turns of 90° and of 45°. 001's table 1: the new Y1 Y2 by
-// Q1 Q2 and the previous Y1 Y2. Sender and receiver both read them.
+// 000's tables 2 and 1: the changes of 2 and of 3 bits, in turns of 90° and of 45°. Sender and receiver both read them. 001's
+// table 1 is computed.
 const CHANGES4: [u8; 4] = [0, 1, 3, 2];
 
 const CHANGES8: [u8; 8] = [1, 0, 2, 3, 6, 7, 5, 4];
-
-const CHANGES16: [u8; 16] = [1, 3, 0, 2, 0, 1, 2, 3, 3, 2, 1, 0, 2, 0, 3, 1];
 
 fn change4(g: usize) -> u8
     ensures { λ r. ⌜ r ≡ entry changes4 g ⌝ }
@@ -31,11 +30,31 @@ fn change8(g: usize) -> u8
     CHANGES8[g % 8]
 }
 
-fn change16(i: usize) -> u8
-    ensures { λ r. ⌜ r ≡ entry changes16 i ⌝ }
+// The place of Y1 Y2 in the ring 00, 01, 11, 10, and Y1 Y2 at a place: 2·Y1 + (Y1 xor Y2).
+fn ring_place(y: u8) -> u8
+    requires { ⌜ y < 4 ⌝ }
+    ensures { λ r. ⌜ r ≡ place y ⌝ }
     ensures { λ r. ⌜ r < 4 ⌝ }
 {
-    CHANGES16[i % 16]
+    y ^ y / 2
+}
+
+// The turns of 90° for Q1 Q2, and Q1 Q2 for turns: 2·Q1 + not (Q1 xor Q2).
+fn turns_for(q: u8) -> u8
+    requires { ⌜ q < 4 ⌝ }
+    ensures { λ r. ⌜ r ≡ turnsFor q ⌝ }
+    ensures { λ r. ⌜ r < 4 ⌝ }
+{
+    q ^ q / 2 ^ 1
+}
+
+// Y1 Y2 turned by Q1 Q2: the row of 001's table 1.
+fn change16(q: u8, y: u8) -> u8
+    requires { ⌜ y < 4 ⌝ }
+    ensures { λ r. ⌜ r ≡ entry changes16 (4 * q + y) ⌝ }
+    ensures { λ r. ⌜ r < 4 ⌝ }
+{
+    ring_place((turns_for(q % 4) + ring_place(y)) % 4)
 }
 
 // The state that a group of line bits gives after a reference.
@@ -43,17 +62,17 @@ pub fn next_state(mode: u8, reference: u8, g: u8) -> u8
     ensures { λ r. ⌜ r ≡ coded mode (face mode reference) g ⌝ }
 {
     let bits = g as usize;
+    let y = reference / 4 % 4;
     if mode <= 1 {
         return (reference % 8 + 2 * change4(bits)) % 8;
     }
     if mode == 2 {
         return (reference % 8 + change8(bits)) % 8;
     }
-    let y = (reference / 4 % 4) as usize;
     if mode == 3 {
-        return 4 * change16(4 * bits + y) + 1;
+        return 4 * change16(g, y) + 1;
     }
-    4 * change16(4 * (bits / 4) + y) + g % 4
+    4 * change16(g / 4, y) + g % 4
 }
 
 // The row, if it is the one; else 0.
@@ -64,8 +83,7 @@ fn row_if(hit: bool, row: usize) -> usize
     if hit { row } else { 0 }
 }
 
-// The rows of the three tables, by what they hold: of the first two the change, of the third the new Y1 Y2 after y. Just one
-// row holds it, and all are looked at.
+// The rows of 000's tables, by the change that they hold. Just one row holds it, and all are looked at.
 fn row4(change: u8) -> usize
     requires { ⌜ change < 4 ⌝ }
     ensures { λ r. ⌜ r ≡ firstRow (λ g. eqb (entry changes4 g) change) 3 ⌝ }
@@ -86,13 +104,13 @@ fn row8(change: u8) -> usize
     low + high + row_if(t[6] == change, 6) + row_if(t[7] == change, 7)
 }
 
-fn row16(y: usize, z: u8) -> usize
+// The row of 001's table 1 that turns y to z: Q1 Q2 of the turn.
+fn row16(y: u8, z: u8) -> u8
     requires { ⌜ (y < 4) × (z < 4) ⌝ }
     ensures { λ r. ⌜ r ≡ turnRow y z ⌝ }
     ensures { λ r. ⌜ r ≤ 3 ⌝ }
 {
-    let t = CHANGES16;
-    row_if(t[4 + y] == z, 1) + row_if(t[8 + y] == z, 2) + row_if(t[12 + y] == z, 3)
+    turns_for((ring_place(z) + 4 - ring_place(y)) % 4)
 }
 
 // The group of line bits that leads from a reference to a state.
@@ -106,7 +124,7 @@ pub fn group_of(mode: u8, reference: u8, s: u8) -> u8
     if mode == 2 {
         return row8(turn) as u8;
     }
-    let row = row16((reference / 4 % 4) as usize, s / 4 % 4) as u8;
+    let row = row16(reference / 4 % 4, s / 4 % 4);
     if mode == 3 {
         return row;
     }
@@ -125,18 +143,24 @@ fn row_index(mode: u8, reference: u8, s: u8) -> usize
     }
 }
 
-// The row at an index; in mode 4 times 4, since Q1 Q2 stand before Q3 Q4 in the group.
-fn row_at(mode: u8, i: usize) -> u8
+// What Q1 Q2 count in a group: in mode 4 they stand before Q3 Q4.
+fn row_unit(mode: u8) -> u8
+    ensures { λ r. ⌜ r ≡ byMode mode 1 1 1 4 ⌝ }
+{
+    if mode <= 3 { 1 } else { 4 }
+}
+
+// The row at an index, in its unit.
+fn row_at(mode: u8, unit: u8, i: usize) -> u8
+    requires { ⌜ unit ≡ byMode mode 1 1 1 4 ⌝ }
     ensures { λ r. ⌜ r ≡ rowAt mode i ⌝ }
 {
     if mode <= 1 {
         row4((i % 8 / 2) as u8) as u8
     } else if mode == 2 {
         row8((i % 8) as u8) as u8
-    } else if mode == 3 {
-        row16(i / 4 % 4, (i % 4) as u8) as u8
     } else {
-        4 * row16(i / 4 % 4, (i % 4) as u8) as u8
+        unit * row16((i / 4 % 4) as u8, (i % 4) as u8)
     }
 }
 
@@ -148,14 +172,16 @@ fn with_row(mode: u8, row: u8, s: u8) -> u8
 }
 
 // All rows of a mode, found once for a caller that looks up many. The first is found apart: with two calls of `row_at` the loop is
-// unrolled before they are put in line, and the rows come out as constants of the mode.
+// unrolled before they are put in line. The unit is found once: were it found for each row, the compiler would make the rows of
+// 001's table 1 constants, and these are not to stand in the image.
 pub fn rows_of(mode: u8) -> [u8; 16]
     ensures { λ r. ⌜ Rows mode r ⌝ }
 {
-    let mut rows = [row_at(mode, 0); 16];
+    let unit = row_unit(mode);
+    let mut rows = [row_at(mode, unit, 0); 16];
     let mut i = 1;
     while i < 16 {
-        rows[i] = row_at(mode, i);
+        rows[i] = row_at(mode, unit, i);
         i += 1;
     }
     rows

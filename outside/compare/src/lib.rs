@@ -4,6 +4,7 @@
 pub mod bulk;
 pub mod faults;
 pub mod floats;
+pub mod image;
 pub mod layout;
 pub mod line;
 pub mod listing;

@@ -27,14 +27,8 @@ cast-result-2 c = search needs
 returns-2 : tie.Need-returns-2
 returns-2 c = search group-2
 
-cast-row16 : tie.Need-cast-row16
-cast-row16 c = search needs
-
 row16-requires : tie.Need-row16-requires
 row16-requires c κs = search needs
-
-cast-row : tie.Need-cast-row
-cast-row c = search needs
 
 returns-3 : tie.Need-returns-3
 returns-3 c = search group-3
@@ -60,9 +54,7 @@ group-of-spec =
     row8-requires
     cast-result-2
     returns-2
-    cast-row16
     row16-requires
-    cast-row
     returns-3
     mul-result
     add-result

@@ -24,15 +24,6 @@ add-result-2 c = search needs
 returns-2 : tie.Need-returns-2
 returns-2 c = search coded-2
 
-cast-y : tie.Need-cast-y
-cast-y c = search needs
-
-mul-change16 : tie.Need-mul-change16
-mul-change16 c = search needs
-
-add-change16 : tie.Need-add-change16
-add-change16 c = search needs
-
 change16-requires : tie.Need-change16-requires
 change16-requires c κs = search needs
 
@@ -44,12 +35,6 @@ add-result-3 c = search needs
 
 returns-3 : tie.Need-returns-3
 returns-3 c = search coded-3
-
-mul-change16-2 : tie.Need-mul-change16-2
-mul-change16-2 c = search needs
-
-add-change16-2 : tie.Need-add-change16-2
-add-change16-2 c = search needs
 
 change16-requires-2 : tie.Need-change16-requires-2
 change16-requires-2 c κs = search needs
@@ -74,15 +59,10 @@ next-state-spec =
     change8-requires
     add-result-2
     returns-2
-    cast-y
-    mul-change16
-    add-change16
     change16-requires
     mul-result-2
     add-result-3
     returns-3
-    mul-change16-2
-    add-change16-2
     change16-requires-2
     mul-result-3
     add-result-4

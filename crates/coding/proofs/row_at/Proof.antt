@@ -1,5 +1,7 @@
 use Rattle.line.proofs.Tests.{tests}
+use native.Mathlib.Omega.{arith}
 use Rattle.coding.specs.Rows.{rowAt}
+use Rattle.coding.proofs.RowLaws.{in-unit-most, row-in-unit}
 use borrow.Author.Needs.{needs}
 use Rattle.coding.proofs.row_at.Statement.{statement}
 use Rattle.coding.proofs.row_at.Tie as tie
@@ -25,23 +27,14 @@ cast-result-2 c = search needs
 cast-row16 : tie.Need-cast-row16
 cast-row16 c = search needs
 
-row16-requires : tie.Need-row16-requires
-row16-requires c κs = search needs
-
-cast-result-3 : tie.Need-cast-result-3
-cast-result-3 c = search needs
-
 cast-row16-2 : tie.Need-cast-row16-2
 cast-row16-2 c = search needs
 
-row16-requires-2 : tie.Need-row16-requires-2
-row16-requires-2 c κs = search needs
-
-cast-result-4 : tie.Need-cast-result-4
-cast-result-4 c = search needs
+row16-requires : tie.Need-row16-requires
+row16-requires c κs = search needs
 
 mul-result : tie.Need-mul-result
-mul-result c = search needs
+mul-result c = let s = c .before .before .before in let h = in-unit-most (s .args .mode) (s .args .unit) (c .row16 .result) (s .pre) (c .row16 .ensures .1) in search needs
 
 returns : tie.Need-returns
 unfolding rowAt
@@ -52,12 +45,7 @@ unfolding rowAt
 returns-2 c = search tests
 
 returns-3 : tie.Need-returns-3
-unfolding rowAt
-returns-3 c = search tests
-
-returns-4 : tie.Need-returns-4
-unfolding rowAt
-returns-4 c = rw (c .row162 .ensures .0) (search tests)
+returns-3 c = search row-in-unit
 
 pub row-at-spec : {M : Type 1} → statement M
 row-at-spec =
@@ -70,13 +58,9 @@ row-at-spec =
     row8-requires
     cast-result-2
     cast-row16
-    row16-requires
-    cast-result-3
     cast-row16-2
-    row16-requires-2
-    cast-result-4
+    row16-requires
     mul-result
     returns
     returns-2
-    returns-3
-    returns-4)
+    returns-3)

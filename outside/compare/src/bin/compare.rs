@@ -1,15 +1,15 @@
 //! Compares the proved library with the outside implementation: line, receiver,
-//! bulk, readings, store, sender, listing, sums, or all of them where none is
-//! named.
+//! bulk, readings, store, sender, listing, sums; image looks for a table that the
+//! library is not to have. All of them where none is named.
 
 use std::process::ExitCode;
 
-use compare::{bulk, line, listing, readings, receiving, sending, storing, summing};
+use compare::{bulk, image, line, listing, readings, receiving, sending, storing, summing};
 
 /// What a name compares; whether there was no difference.
 type Part = (&'static str, fn() -> bool);
 
-const PARTS: [Part; 8] = [
+const PARTS: [Part; 9] = [
     ("line", line::compare),
     ("receiver", || receiving::compare(1_200_000)),
     ("bulk", || bulk::compare(100_000)),
@@ -18,6 +18,7 @@ const PARTS: [Part; 8] = [
     ("sender", || sending::compare(200_000)),
     ("listing", || listing::compare(20_000)),
     ("sums", || summing::compare(200_000)),
+    ("image", image::compare),
 ];
 
 fn main() -> ExitCode {
