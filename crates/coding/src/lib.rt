@@ -66,11 +66,11 @@ pub fn next_state(mode: u8, reference: u8, g: u8) -> u8
     if mode <= 1 {
         return (reference % 8 + 2 * change4(bits)) % 8;
     }
-    if mode == 2 {
-        return (reference % 8 + change8(bits)) % 8;
-    }
     if mode == 3 {
         return 4 * change16(g, y) + 1;
+    }
+    if mode == 2 {
+        return (reference % 8 + change8(bits)) % 8;
     }
     4 * change16(g / 4, y) + g % 4
 }

@@ -15,26 +15,26 @@ add-result c = search needs
 returns : tie.Need-returns
 returns c = search coded-1
 
-change8-requires : tie.Need-change8-requires
-change8-requires c κs = search needs
-
-add-result-2 : tie.Need-add-result-2
-add-result-2 c = search needs
-
-returns-2 : tie.Need-returns-2
-returns-2 c = search coded-2
-
 change16-requires : tie.Need-change16-requires
 change16-requires c κs = search needs
 
 mul-result-2 : tie.Need-mul-result-2
 mul-result-2 c = search needs
 
+add-result-2 : tie.Need-add-result-2
+add-result-2 c = search needs
+
+returns-2 : tie.Need-returns-2
+returns-2 c = search coded-3
+
+change8-requires : tie.Need-change8-requires
+change8-requires c κs = search needs
+
 add-result-3 : tie.Need-add-result-3
 add-result-3 c = search needs
 
 returns-3 : tie.Need-returns-3
-returns-3 c = search coded-3
+returns-3 c = search coded-2
 
 change16-requires-2 : tie.Need-change16-requires-2
 change16-requires-2 c κs = search needs
@@ -56,11 +56,11 @@ next-state-spec =
     mul-result
     add-result
     returns
-    change8-requires
-    add-result-2
-    returns-2
     change16-requires
     mul-result-2
+    add-result-2
+    returns-2
+    change8-requires
     add-result-3
     returns-3
     change16-requires-2
