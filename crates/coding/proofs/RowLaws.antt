@@ -10,6 +10,7 @@ use Rattle.line.specs.Mode.{byMode, face, quadrant}
 use Rattle.line.proofs.ByMode.{mode-4, by-all}
 use Rattle.line.proofs.TableLaws.{row-below}
 use Rattle.coding.specs.Code.{changes4, changes8, changes16, eighths, turnRow, group}
+use Rattle.coding.specs.Rule.{rowUnit}
 use Rattle.coding.specs.Rows.{rowIndex, rowAt, withRow, Rows}
 use Rattle.coding.proofs.CodeLaws.{group-1, group-2, group-3, group-4}
 
@@ -71,12 +72,13 @@ unfolding withRow
 row-and-low m row s h = sym (from-4 row (row % 16 + s % 4) m h)
 
 -- a row in its unit
-pub in-unit-most : (m u r : ℕ) → u ≡ byMode m 1 1 1 4 → r ≤ 3 → u * r ≤ 12
+pub in-unit-most : (m u r : ℕ) → u ≡ rowUnit m → r ≤ 3 → u * r ≤ 12
+unfolding rowUnit
 in-unit-most m u r e h =
     subst (λ (v : ℕ). v * r ≤ 12) (sym e) (by-all (λ (v : ℕ). v * r ≤ 12) 1 1 1 4 (omega arith) (omega arith) (omega arith) (omega arith) m)
 
-pub row-in-unit : (m i u r : ℕ) → 1 < m → (m ≡ 2 → ⊥) → u ≡ byMode m 1 1 1 4 → r ≡ turnRow (i / 4 % 4) (i % 4) → u * r ≡ rowAt m i
-unfolding rowAt
+pub row-in-unit : (m i u r : ℕ) → 1 < m → (m ≡ 2 → ⊥) → u ≡ rowUnit m → r ≡ turnRow (i / 4 % 4) (i % 4) → u * r ≡ rowAt m i
+unfolding rowAt rowUnit
 row-in-unit zero i u r h f e k = absurd (omega arith)
 row-in-unit (suc zero) i u r h f e k = absurd (omega arith)
 row-in-unit (suc (suc zero)) i u r h f e k = absurd (f refl)

@@ -3,6 +3,7 @@
 use Prim.Native.Nat.{ℕ, _+_, _*_, _-_, _/_, _%_, _<_}
 use mathlib.Core.Path.{_≡_}
 use Rattle.line.specs.Table.{entry}
+use Rattle.line.specs.Mode.{byMode}
 use Rattle.coding.specs.Code.{changes16, turnRow}
 
 -- the place of Y1 Y2 in the ring 00, 01, 11, 10: 2·Y1 + (Y1 xor Y2). So also is Y1 Y2 found at a place.
@@ -12,6 +13,10 @@ place y = 2 * (y / 2) + (y / 2 + y % 2) % 2
 -- the turns of 90° for Q1 Q2: 2·Q1 + not (Q1 xor Q2). So also is Q1 Q2 found for turns.
 unfoldable pub turnsFor : ℕ → ℕ
 turnsFor q = 2 * (q / 2) + (q / 2 + q % 2 + 1) % 2
+
+-- what Q1 Q2 count in a group: in mode 4 they stand before Q3 Q4
+unfoldable pub rowUnit : ℕ → ℕ
+rowUnit m = byMode m 1 1 1 4
 
 -- of two numbers of 2 bits: Y1 Y2 = b turned by Q1 Q2 = a is the table's row, and Q1 Q2 for the turn from a to b the row found in it
 pub record ByRule (a b : ℕ) : Type 0 where

@@ -5,9 +5,9 @@ ghost use Prim.Native.Nat.{_+_, _*_, _≤_, _<_};
 ghost use lib.Dec.{eqb};
 ghost use lib.ListN.{getD};
 ghost use Rattle.line.specs.Table.{entry, firstRow};
-ghost use Rattle.line.specs.Mode.{byMode, face};
+ghost use Rattle.line.specs.Mode.{face};
 ghost use Rattle.coding.specs.Code.{changes4, changes8, changes16, coded, turnRow, group};
-ghost use Rattle.coding.specs.Rule.{place, turnsFor};
+ghost use Rattle.coding.specs.Rule.{place, turnsFor, rowUnit};
 ghost use Rattle.coding.specs.Rows.{rowIndex, rowAt, withRow, Rows};
 
 // 000's tables 2 and 1: the changes of 2 and of 3 bits, in turns of 90° and of 45°. Sender and receiver both read them. 001's
@@ -57,7 +57,8 @@ fn change16(q: u8, y: u8) -> u8
     ring_place((turns_for(q % 4) + ring_place(y)) % 4)
 }
 
-// The state that a group of line bits gives after a reference.
+// The state that a group of line bits gives after a reference. That Y1 Y2 are taken first and mode 3 is asked for before mode 2 is
+// for the compiler: in most other orders it puts the function in line in the sender's loop, and mode 2 takes longer.
 pub fn next_state(mode: u8, reference: u8, g: u8) -> u8
     ensures { λ r. ⌜ r ≡ coded mode (face mode reference) g ⌝ }
 {
@@ -143,16 +144,16 @@ fn row_index(mode: u8, reference: u8, s: u8) -> usize
     }
 }
 
-// What Q1 Q2 count in a group: in mode 4 they stand before Q3 Q4.
+// What Q1 Q2 count in a group, which in mode 4 stand before Q3 Q4.
 fn row_unit(mode: u8) -> u8
-    ensures { λ r. ⌜ r ≡ byMode mode 1 1 1 4 ⌝ }
+    ensures { λ r. ⌜ r ≡ rowUnit mode ⌝ }
 {
     if mode <= 3 { 1 } else { 4 }
 }
 
-// The row at an index, in its unit.
-fn row_at(mode: u8, unit: u8, i: usize) -> u8
-    requires { ⌜ unit ≡ byMode mode 1 1 1 4 ⌝ }
+// The row at an index. Modes 3 and 4 are one product: of two cases the compiler makes the rows of 001's table 1 constants, and these
+// are not to stand in the image.
+fn row_at(mode: u8, i: usize) -> u8
     ensures { λ r. ⌜ r ≡ rowAt mode i ⌝ }
 {
     if mode <= 1 {
@@ -160,7 +161,7 @@ fn row_at(mode: u8, unit: u8, i: usize) -> u8
     } else if mode == 2 {
         row8((i % 8) as u8) as u8
     } else {
-        unit * row16((i / 4 % 4) as u8, (i % 4) as u8)
+        row_unit(mode) * row16((i / 4 % 4) as u8, (i % 4) as u8)
     }
 }
 
@@ -172,16 +173,14 @@ fn with_row(mode: u8, row: u8, s: u8) -> u8
 }
 
 // All rows of a mode, found once for a caller that looks up many. The first is found apart: with two calls of `row_at` the loop is
-// unrolled before they are put in line. The unit is found once: were it found for each row, the compiler would make the rows of
-// 001's table 1 constants, and these are not to stand in the image.
+// unrolled before they are put in line.
 pub fn rows_of(mode: u8) -> [u8; 16]
     ensures { λ r. ⌜ Rows mode r ⌝ }
 {
-    let unit = row_unit(mode);
-    let mut rows = [row_at(mode, unit, 0); 16];
+    let mut rows = [row_at(mode, 0); 16];
     let mut i = 1;
     while i < 16 {
-        rows[i] = row_at(mode, unit, i);
+        rows[i] = row_at(mode, i);
         i += 1;
     }
     rows

@@ -1,5 +1,4 @@
 use Rattle.line.proofs.Tests.{tests}
-use native.Mathlib.Omega.{arith}
 use Rattle.coding.specs.Rows.{rowAt}
 use Rattle.coding.proofs.RowLaws.{in-unit-most, row-in-unit}
 use borrow.Author.Needs.{needs}
@@ -24,6 +23,9 @@ row8-requires c κs = search needs
 cast-result-2 : tie.Need-cast-result-2
 cast-result-2 c = search needs
 
+row-unit-requires : tie.Need-row-unit-requires
+row-unit-requires c κs = search needs
+
 cast-row16 : tie.Need-cast-row16
 cast-row16 c = search needs
 
@@ -34,7 +36,7 @@ row16-requires : tie.Need-row16-requires
 row16-requires c κs = search needs
 
 mul-result : tie.Need-mul-result
-mul-result c = let s = c .before .before .before in let h = in-unit-most (s .args .mode) (s .args .unit) (c .row16 .result) (s .pre) (c .row16 .ensures .1) in search needs
+mul-result c = let h = in-unit-most _ _ _ (c .before .row-unit .ensures) (c .row16 .ensures .1) in search needs
 
 returns : tie.Need-returns
 unfolding rowAt
@@ -57,6 +59,7 @@ row-at-spec =
     cast-row8
     row8-requires
     cast-result-2
+    row-unit-requires
     cast-row16
     cast-row16-2
     row16-requires

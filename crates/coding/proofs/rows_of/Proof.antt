@@ -7,19 +7,16 @@ use Rattle.coding.proofs.rows_of.Statement.{statement}
 use Rattle.coding.proofs.rows_of.Tie as tie
 
 abbrev Inv-loop : tie.InvT-loop
-Inv-loop mode unit rows₀ i₀ rows i = (i ≤ 16) × FilledTo (rowAt mode) 0 i rows
+Inv-loop mode rows₀ i₀ rows i = (i ≤ 16) × FilledTo (rowAt mode) 0 i rows
 
 abbrev μ-loop : tie.MeasureT-loop
-μ-loop mode unit rows₀ i₀ rows i = 16 - i
-
-row-unit-requires : tie.Need-row-unit-requires Inv-loop μ-loop
-row-unit-requires c κs = search needs
+μ-loop mode rows₀ i₀ rows i = 16 - i
 
 row-at-requires : tie.Need-row-at-requires Inv-loop μ-loop
 row-at-requires c κs = search needs
 
 loop-holds : tie.Need-loop-holds Inv-loop μ-loop
-loop-holds c = (omega arith, filled-first (rowAt (c .before .before .args .mode)) 0 _ (c .row-at .ensures))
+loop-holds c = (omega arith, filled-first (rowAt (c .before .args .mode)) 0 _ (c .row-at .ensures))
 
 row-at-requires-2 : tie.Need-row-at-requires-2 Inv-loop μ-loop
 row-at-requires-2 c κs = search needs
@@ -36,7 +33,7 @@ loop-less c = search needs
 loop-again : tie.Need-loop-again Inv-loop μ-loop
 loop-again c =
     let l = c .before .before .loop in
-    (omega arith, filled-next (rowAt (c .before .before .before .before .before .args .mode)) 0 (l .i) (c .row-at2 .result) (l .rows) (c .before .loop-test .taken) (l .inv .1) (c .row-at2 .ensures))
+    (omega arith, filled-next (rowAt (c .before .before .before .before .args .mode)) 0 (l .i) (c .row-at2 .result) (l .rows) (c .before .loop-test .taken) (l .inv .1) (c .row-at2 .ensures))
 
 returns : tie.Need-returns Inv-loop μ-loop
 returns c = let l = c .before .loop in filled-all _ 0 (l .i) (l .rows) (c .loop-test .left) (l .inv .1)
@@ -47,7 +44,6 @@ rows-of-spec =
     (tie.spec
     Inv-loop
     μ-loop
-    row-unit-requires
     row-at-requires
     loop-holds
     row-at-requires-2
