@@ -8,8 +8,9 @@ use crate::code::QUADRANT_CODE;
 
 /// Bytes that a value may have.
 const WIDTHS: [usize; 4] = [1, 2, 4, 8];
-/// How many values in a row are a part of the table, where each has bytes of its
-/// own. Where several share a byte only the whole table is told from chance.
+/// How many values side by side are a part of the table, where each has bytes of
+/// its own: four are met by chance. Where several share a byte only the whole table
+/// is told from chance.
 const PART: usize = 5;
 
 /// A list of the table's values, and what it lists.
