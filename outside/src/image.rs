@@ -9,9 +9,10 @@ use crate::code::QUADRANT_CODE;
 /// Bytes that a value may have.
 const WIDTHS: [usize; 4] = [1, 2, 4, 8];
 /// How many values side by side are a part of the table, where each has bytes of
-/// its own: four are met by chance. Where several share a byte only the whole table
-/// is told from chance.
+/// its own; four are met by chance, but not as multiples in single bytes. Where
+/// several share a byte only the whole table is told from chance.
 const PART: usize = 5;
+const PART_OF_MULTIPLES: usize = 4;
 
 /// A list of the table's values, and what it lists.
 pub struct Rows {
@@ -91,8 +92,13 @@ fn packed(values: impl Iterator<Item = u8>, bits: u32) -> u64 {
 /// The forms in which a table may stand: each with its name and its bytes.
 pub fn forms(rows: &Rows) -> Vec<(String, Vec<u8>)> {
     let mut forms = Vec::new();
+    let multiples = rows.values.iter().any(|&value| value > 3);
     for width in WIDTHS {
-        for part in rows.values.windows(PART) {
+        let least = match width {
+            1 if multiples => PART_OF_MULTIPLES,
+            _ => PART,
+        };
+        for part in rows.values.windows(least) {
             forms.push((format!("{} in {width} bytes", rows.name), wide(part, width)));
         }
     }
