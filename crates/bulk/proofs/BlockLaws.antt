@@ -38,9 +38,9 @@ use Rattle.scrambler.proofs.GroupLaws.{descrambled-small, after-full}
 use Rattle.receiver.specs.declared.Reference.{Reference}
 use Rattle.receiver.specs.declared.Reference.the-variants.{Nothing as none, State as some}
 use Rattle.receiver.specs.declared.Receiver.{Receiver}
-use Rattle.receiver.specs.Receiver.{receiver, point, refused, lost, fieldsOk, stateRefusal, inSector, hasRoom, eventRefusal, refusal, stateAnswer, pointAnswer, eventAnswer, answer, forgotten, stateLine, stateNext, pointNext, eventNext, next}
+use Rattle.receiver.specs.Receiver.{receiver, point, refused, lost, fieldsOk, stateRefusal, hasRoom, eventRefusal, refusal, stateAnswer, pointAnswer, eventAnswer, answer, forgotten, stateLine, stateNext, pointNext, eventNext, next}
 use Rattle.receiver.specs.Calls.{after, EachAccepted, Heard, answers}
-use Rattle.receiver.proofs.OutcomeLaws.{in-a-sector, accepted-placed}
+use Rattle.receiver.proofs.OutcomeLaws.{accepted-placed}
 use Rattle.receiver.proofs.CallLaws.{accepted-valid, accepted-off, handed-back-passes, same-next, heard-accepted, heard-all}
 use Rattle.receiver.proofs.TurnLaws.{bits-group}
 use Rattle.bulk.specs.declared.Block.{Block}
@@ -60,7 +60,7 @@ module _ (s : Receiver) (p : Point) (z : refusal s (point p) ≡ 0) where
   pub has-place : s .place .0 < 4294967295
   unfolding eventRefusal hasRoom
   has-place =
-      let r : T (leb (s .place .0 + 1) 4294967295) = need-met (hasRoom s 1) 15 0 (need-rest (inSector (decide (s .mode) p)) 9 _ (need-rest (inRange p) 7 _ own-refusal)) in
+      let r : T (leb (s .place .0 + 1) 4294967295) = need-met (hasRoom s 1) 15 0 (need-rest (inRange p) 7 _ own-refusal) in
       let l : s .place .0 + 1 ≤ 4294967295 = leb-true _ _ (is-true _ r) in
       omega arith
 
@@ -121,14 +121,10 @@ plain-fits m role g h d e = subst (λ (c : Descrambled). (c .plain < 16) × (c .
 
 -- ALL POINTS
 
-pub each-in-a-sector : (m : ℕ) (ps : List Point) → T (every (λ p. inSector (decide m p)) ps)
-each-in-a-sector m [] = tt
-each-in-a-sector m (p ∷ ps) = and-intro (inSector (decide m p)) _ (in-a-sector m p) (each-in-a-sector m ps)
-
 pub accepts : (s : Receiver) (p : Point) → stateRefusal s ≡ 0 → T (inRange p) → s .place .0 < 4294967295 → refusal s (point p) ≡ 0
 unfolding refusal eventRefusal hasRoom
 accepts s p z i l =
-    rw z (need-intro (inRange p) 8 _ i (need-intro (inSector (decide (s .mode) p)) 10 _ (in-a-sector (s .mode) p) (rw (le-leb (s .place .0 + 1) 4294967295 (omega arith)))))
+    rw z (need-intro (inRange p) 8 _ i (rw (le-leb (s .place .0 + 1) 4294967295 (omega arith))))
 
 -- none of the single calls is refused
 pub accepted-one-by-one : (s : Receiver) (ps : List Point) → stateRefusal s ≡ 0 → T (every inRange ps) → s .place .0 + length ps ≤ 4294967295 → EachAccepted s (map point ps)
@@ -145,11 +141,8 @@ module _ (s : Receiver) (g : Given) (n : Lent) where
   abbrev room-number : ℕ
   room-number = need (hasRoom s (length (pointsOf g))) 16 0
 
-  abbrev sector-number : ℕ
-  sector-number = need (every (λ p. inSector (decide (s .mode) p)) (pointsOf g)) 10 room-number
-
   abbrev range-number : ℕ
-  range-number = need (every inRange (pointsOf g)) 8 sector-number
+  range-number = need (every inRange (pointsOf g)) 8 room-number
 
   pub lent-is : placesOk (length (g .numbers)) n ≡ lentOk g n
   unfolding lentOk placesOk
@@ -198,7 +191,7 @@ module _ (s : Receiver) (g : Given) (n : Lent) where
     unfolding hasRoom
     one-by-one =
         accepted-one-by-one s (pointsOf g) passes all-in-range
-        (leb-true _ _ (is-true _ (need-met (hasRoom s (length (pointsOf g))) 15 0 (need-rest (every (λ p. inSector (decide (s .mode) p)) (pointsOf g)) 9 _ (need-rest (every inRange (pointsOf g)) 7 _ in-range)))))
+        (leb-true _ _ (is-true _ (need-met (hasRoom s (length (pointsOf g))) 15 0 (need-rest (every inRange (pointsOf g)) 7 _ in-range))))
 
 each-in-range : (s : Receiver) (ps : List Point) → EachAccepted s (map point ps) → T (every inRange ps)
 unfolding eventRefusal
@@ -218,8 +211,7 @@ pub at-once : (s : Receiver) (g : Given) (n : Lent) → stateRefusal s ≡ 0 →
 unfolding blockRefusal hasRoom
 at-once s g n z l t u f =
     rw z (need-intro (lentOk g n) 7 _ t (need-intro (g .finite) 18 _ u (need-intro (every inRange (pointsOf g)) 8 _ (each-in-range s (pointsOf g) f)
-    (need-intro (every (λ p. inSector (decide (s .mode) p)) (pointsOf g)) 10 _ (each-in-a-sector (s .mode) (pointsOf g))
-    (rw (le-leb (s .place .0 + length (pointsOf g)) 4294967295 (each-has-place s (pointsOf g) l f)))))))
+    (rw (le-leb (s .place .0 + length (pointsOf g)) 4294967295 (each-has-place s (pointsOf g) l f))))))
 
 pub just-when : JustWhen
 just-when s g n l =
@@ -250,7 +242,7 @@ module _ (s : Receiver) (g : Given) (n : Lent) where
   from-18-on : length (g .numbers) % 2 ≡ 0 → orNext (coordinateFault g) (need (hasRoom s (length (g .numbers) / 2)) 16 0) ≡ need (g .finite) 18 (range-number s g n)
   unfolding coordinateFault
   from-18-on e =
-      rw (each-of (g .numbers) e, ← pairs-length (g .numbers), is-true (every (λ p. inSector (decide (s .mode) p)) (pointsOf g)) (each-in-a-sector (s .mode) (pointsOf g)))
+      rw (each-of (g .numbers) e, ← pairs-length (g .numbers))
       (by (g .finite) (every inRange (pointsOf g)) (room-number s g n))
     where
       by : (a b : Bool) (k : ℕ) → orNext (need a 18 (need b 8 0)) k ≡ need a 18 (need b 8 k)
@@ -303,7 +295,7 @@ module _ (s : Receiver) (zs : List ℤ) (n : Lent) (f : ℕ) (e : f ≡ stateRef
       module _ (k : r ≡ true) where
         room-last : room-number s (inUnits zs) n ≡ blockRefusal s (inUnits zs) n
         unfolding blockRefusal placesOk
-        room-last = rw (← e, z, ← lent-is s (inUnits zs) n, ← q, h, ← i, k, is-true (every (λ p. inSector (decide (s .mode) p)) (pairs zs)) (each-in-a-sector (s .mode) (pairs zs)))
+        room-last = rw (← e, z, ← lent-is s (inUnits zs) n, ← q, h, ← i, k)
 
         pub fault-room : 4294967295 - s .place .0 < length zs / 2 → 16 ≡ blockRefusal s (inUnits zs) n
         unfolding hasRoom

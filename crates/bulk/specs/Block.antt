@@ -15,12 +15,11 @@ use Rattle.line.specs.declared.Point.{Point}
 use Rattle.line.specs.Point.{pairs, inRange, coordinatesIn}
 use Rattle.line.specs.Table.{every}
 use Rattle.levels.specs.Levels.{isFinite, rounded}
-use Rattle.deciding.specs.Decide.{decide}
 use Rattle.line.specs.Refusal.{need, orNext, accepted}
 use Rattle.scrambler.specs.Bits.{value}
 use Rattle.scrambler.specs.Group.{plainOf, unsettledIn}
 use Rattle.receiver.specs.declared.Receiver.{Receiver}
-use Rattle.receiver.specs.Receiver.{point, Answer, refused, reference, decoded, lost, stateRefusal, inSector, hasRoom}
+use Rattle.receiver.specs.Receiver.{point, Answer, refused, reference, decoded, lost, stateRefusal, hasRoom}
 use Rattle.receiver.specs.Calls.{after, EachAccepted, heard, events, answers}
 use Rattle.bulk.specs.declared.Block.{Block}
 use Rattle.bulk.specs.declared.Block.the-variants.{Refused as NotTaken, Taken}
@@ -111,8 +110,7 @@ blockRefusal s g n =
     (need (lentOk g n) 7
     (need (g .finite) 18
     (need (every inRange (pointsOf g)) 8
-    (need (every (λ p. inSector (decide (s .mode) p)) (pointsOf g)) 10
-    (need (hasRoom s (length (pointsOf g))) 16 0)))))
+    (need (hasRoom s (length (pointsOf g))) 16 0))))
 
 -- the same as the code finds it, number by number
 

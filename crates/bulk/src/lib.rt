@@ -92,7 +92,7 @@ fn lose(s: Receiver) -> Step
     }
 }
 
-// A point that nothing refuses, so that it is the origin or in a sector.
+// A point that nothing refuses.
 fn hear(ring: &[u8; 16], rows: &[u8; 16], s: Receiver, re: i16, im: i16) -> Step
     requires { ⌜ (now ring ≡ ringOf (s .mode)) × Rows (s .mode) (now rows) × (refusal s (point (at re im)) ≡ 0) ⌝ }
     ensures { λ r. ⌜ r ≡ step (answer s (point (at re im))) (next s (point (at re im))) ⌝ }
@@ -237,8 +237,7 @@ fn hear_all(
     t
 }
 
-// The number that refuses a block with so much lent for line bits, data bits and distances, 0 for none. Number 10 is not looked for:
-// no point is in no sector.
+// The number that refuses a block with so much lent for line bits, data bits and distances, 0 for none.
 fn block_fault(s: Receiver, points: &[i16], line: usize, plain: usize, distance: usize) -> u8
     ensures { λ r. ⌜ r ≡ blockRefusal s (inUnits (now (points .entry))) (record { line = line; plain = plain; distance = distance }) ⌝ }
 {

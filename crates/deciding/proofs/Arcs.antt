@@ -5,7 +5,6 @@ use mathlib.Core.Bool.{cond}
 use mathlib.Core.List.{List, [], _∷_}
 use lib.Dec.{eqb, ltb, leb}
 use lib.ListN.{getD}
-use Rattle.deciding.specs.Decide.{Region, State, NoSector}
 use Rattle.deciding.specs.Sizes.{sq}
 use Rattle.line.specs.Mode.{byMode}
 
@@ -29,14 +28,11 @@ ring3 = 13 ∷ 9 ∷ 1 ∷ 5 ∷ []
 unfoldable pub state3 : Arc → ℕ
 state3 t = getD ring3 ((t .quarters + cond (leb (t .across) (2 * t .along)) 0 1) % 4) 0
 
-unfoldable pub decided2 : Arc → Region
-decided2 t =
-    cond (ltb (sq (t .along + t .across)) (2 * sq (t .along))) (State (t .quarters * 2))
-    (cond (ltb (sq (t .along + t .across)) (2 * sq (t .across))) (State ((t .quarters * 2 + 2) % 8))
-    (cond (ltb (2 * sq (t .along)) (sq (t .along + t .across)))
-    (cond (ltb (2 * sq (t .across)) (sq (t .along + t .across))) (State (t .quarters * 2 + 1))
-    NoSector)
-    NoSector))
+-- nearer the axis along, nearer the one across, or between them
+unfoldable pub state2 : Arc → ℕ
+state2 t =
+    cond (ltb (sq (t .along + t .across)) (2 * sq (t .along))) (t .quarters * 2)
+    (cond (ltb (sq (t .along + t .across)) (2 * sq (t .across))) ((t .quarters * 2 + 2) % 8) (t .quarters * 2 + 1))
 
 -- the quadrants I to IV, each by its levels
 unfoldable pub ring4 : List ℕ
@@ -52,5 +48,5 @@ state4 t =
     (getD ring4 ((t .quarters + 3) % 4 * 4 + outerSize (t .along) * 2) 0)
     (getD ring4 (t .quarters * 4 + outerSize (t .across) * 2 + outerSize (t .along)) 0)
 
-unfoldable pub decidedArc : ℕ → Arc → Region
-decidedArc m t = byMode m (State (state1 t)) (decided2 t) (State (state3 t)) (State (state4 t))
+unfoldable pub stateArc : ℕ → Arc → ℕ
+stateArc m t = byMode m (state1 t) (state2 t) (state3 t) (state4 t)

@@ -1,110 +1,51 @@
--- Deciding: each point off the origin lies in exactly one turn of the first region, the answer is a state of the mode, that of a sent
--- point its state, and a turn of the point by 90° turns the answer. Assumes nothing.
+-- Deciding: the answer off the origin is a state of the mode, that of a sent point its state, and a turn of the point by 90° turns the
+-- answer. Assumes nothing.
 use mathlib.Core.Path.{_≡_, refl, sym, ap, ap₂, _∙_, subst}
-use mathlib.Core.Bool.{Bool, true, false, _&&_, cond}
+use mathlib.Core.Bool.{Bool, true, false, cond}
 use mathlib.Core.List.{map}
 use Prim.Native.Nat.{ℕ, zero, suc, _+_, _*_, _-_, _%_, _<_, _≤_}
 use native.Mathlib.Omega.{arith}
 use native.Mathlib.Decide.{decLe}
 use lib.Dec.{T, eqb, leb, eqb→eq}
-use lib.IntN.{ℤ, pos, negsuc, natAbs, _+ℤ_, _*ℤ_}
+use lib.IntN.{ℤ, pos, natAbs, _+ℤ_, _*ℤ_}
 use lib.ListN.{getD}
 use lib.Signed.{ltZ}
 use Rattle.line.specs.declared.Point.{Point}
 use Rattle.line.specs.Table.{every}
 use Rattle.line.specs.Mode.{isMode, states, isState, quadrant, nextQuadrant, step, turn, turns, quarterSteps}
 use Rattle.line.specs.Point.{at, isOrigin, turned, turnedBy, sent27, levels32, sent32, sentPoint}
-use Rattle.deciding.specs.Decide.{Region, State, Origin, NoSector, square, inFirst, sector, outer, first, turnedAnswer, quarters, decideBy, decide}
+use Rattle.deciding.specs.Decide.{Region, State, Origin, square, inFirst, sector, outer, first, quarters, turnedState, decideBy, decide, turnedAnswer}
 use Rattle.deciding.specs.declared.Decision.{Decision}
 use Rattle.deciding.specs.declared.Decision.the-variants.{State as DecidedAs, Origin as AtOrigin}
 use Rattle.deciding.specs.declared.SquaredUnits.{SquaredUnits}
 use Rattle.deciding.specs.Distance.{distance, measured, decision}
 use Rattle.deciding.specs.Sizes.{ringOf, ringIndex}
-use Rattle.deciding.specs.Laws.{InOneRegion, DecidedState, DecidedSent, TurnDecides, statesOf, distancesOf, lostOf, Told}
+use Rattle.deciding.specs.Laws.{DecidedState, DecidedSent, TurnDecides, statesOf, distancesOf, lostOf, Told}
 use Rattle.line.proofs.TableLaws.{below-at}
 use Rattle.line.proofs.StateLaws.{mode-cases, state-at, of-state, turns-state, turns-add, four-quarters}
 use Rattle.deciding.proofs.RingLaws.{by-ring, looked-up, origin-none}
-use Rattle.deciding.proofs.RegionLaws.{Turn, before, turn-four, origin-turned, turn-before, turn-by, turn-decide, off-turned, base, Sloped, sloped-1, sloped-3, turn-within, turn-past, turn-2, turn-4, turn-4-axis}
-
--- THE REGIONS
-
--- one turn of the point lies in the first region, and no other
-record InOne (m : ℕ) (z : Point) : Type 0 where
-  by : ℕ
-  small : by < 4
-  turn : Turn m z by
-
-base-in-one : (m a b : ℕ) → InOne m (base m a b)
-base-in-one m a b = by-mode (decLe m 1) (decLe m 2) (decLe m 3)
-  where
-    one : (j : ℕ) → j < 4 → Turn m (base m a b) j → InOne m (base m a b)
-    one j h t = record { by = j; small = h; turn = t }
-
-    about : (n : ℕ) → Sloped m n → Dec (b ≤ n * suc a) → InOne m (base m a b)
-    about n e (yes p) = one 0 (omega arith) (turn-within m n a b e p)
-    about n e (no p) = one 3 (omega arith) (turn-past m n a b e (omega (arith, p)))
-
-    mode-4 : 1 < m → (m ≡ 2 → ⊥) → (m ≡ 3 → ⊥) → Dec (b ≤ 0) → InOne m (base m a b)
-    mode-4 h f g (yes p) = one 1 (omega arith) (turn-4-axis m a b h f g (omega arith))
-    mode-4 h f g (no p) = one 0 (omega arith) (turn-4 m a b h f g (omega (arith, p)))
-
-    by-mode : Dec (m ≤ 1) → Dec (m ≤ 2) → Dec (m ≤ 3) → InOne m (base m a b)
-    by-mode (yes p) q r = about 1 (sloped-1 m p) (decLe b (1 * suc a))
-    by-mode (no p) (yes q) r = one 0 (omega arith) (turn-2 m a b (omega (arith, p)))
-    by-mode (no p) (no q) (yes r) = about 2 (sloped-3 m (omega (arith, q))) (decLe b (2 * suc a))
-    by-mode (no p) (no q) (no r) = mode-4 (omega (arith, r)) (λ e. omega (arith, r)) (λ e. omega (arith, r)) (decLe b 0)
-
-turned-in-one : (m k a b : ℕ) → InOne m (turnedBy k (base m a b))
-turned-in-one m k a b =
-    let i = base-in-one m a b in
-    record { by = (i .by + 3 * k) % 4; small = omega arith; turn = turn-by m k (base m a b) (i .by) (i .small) (i .turn) }
-
-in-one : (m : ℕ) (re im : ℤ) → isOrigin (at re im) ≡ false → InOne m (at re im)
-unfolding isOrigin
-in-one m (pos zero) (pos zero) o = absurd (subst T o tt)
-in-one m (pos (suc x)) (pos y) o = turned-in-one m 0 x y
-in-one m (pos zero) (pos (suc y)) o = turned-in-one m 1 y 0
-in-one m (negsuc x) (pos (suc y)) o = turned-in-one m 1 y (suc x)
-in-one m (negsuc x) (pos zero) o = turned-in-one m 2 x 0
-in-one m (negsuc x) (negsuc y) o = turned-in-one m 2 x (suc y)
-in-one m (pos zero) (negsuc y) o = turned-in-one m 3 y 0
-in-one m (pos (suc x)) (negsuc y) o = turned-in-one m 3 y (suc x)
-
-region-of : (m : ℕ) (z : Point) → isOrigin z ≡ false → InOne m z
-region-of m z o = in-one m (z .re) (z .im) o
-
-pub in-one-region : InOneRegion
-in-one-region m z o = let i = region-of m z o in (i .by, i .small, at-each (i .turn))
-  where
-    at-each : {j : ℕ} → Turn m z j → (i : ℕ) → i < 4 → inFirst m (turnedBy i z) ≡ eqb i j
-    at-each t zero h = t .at-0
-    at-each t (suc zero) h = t .at-1
-    at-each t (suc (suc zero)) h = t .at-2
-    at-each t (suc (suc (suc zero))) h = t .at-3
-    at-each t (suc (suc (suc (suc i)))) h = absurd (omega arith)
+use Rattle.deciding.proofs.RegionLaws.{before, turn-four, origin-turned, turn-before, turn-decide, off-turned}
+use Rattle.deciding.proofs.OneRegion.{region-of}
 
 -- THE ANSWER IS A STATE
 
--- a state of the mode, or no sector
+-- a state of the mode
 abbrev pub Off : ℕ → Region → Type 0
 Off m (State y) = T (isState m y)
 Off m Origin = ⊥
-Off m NoSector = Unit {0}
 
--- what holds of both regions holds of the chosen one
-pub either : (P : Region → Type 0) (b : Bool) (c d : Region) → P c → P d → P (cond b c d)
-either P true c d p q = p
-either P false c d p q = q
+-- what holds of both states holds of the chosen one
+pub either : (P : ℕ → Type 0) (b : Bool) (x y : ℕ) → P x → P y → P (cond b x y)
+either P true x y p q = p
+either P false x y p q = q
 
-sector-off : (z : Point) → Off 2 (sector z)
+sector-state : (z : Point) → T (isState 2 (sector z))
 unfolding sector isState states
-sector-off z =
+sector-state z =
+    let P : ℕ → Type 0 = λ x. T (isState 2 x) in
     let s : ℤ = square (z .re +ℤ z .im) in
-    let x : ℤ = pos 2 *ℤ square (z .re) in
-    let y : ℤ = pos 2 *ℤ square (z .im) in
-    let between : Region = cond (ltZ x s && ltZ y s) (State 1) NoSector in
-    either (Off 2) (ltZ s x) (State 0) (cond (ltZ s y) (State 2) between) tt
-    (either (Off 2) (ltZ s y) (State 2) between tt (either (Off 2) (ltZ x s && ltZ y s) (State 1) NoSector tt tt))
+    let past : Bool = ltZ s (pos 2 *ℤ square (z .im)) in
+    either P (ltZ s (pos 2 *ℤ square (z .re))) 0 (cond past 2 1) tt (either P past 2 1 tt tt)
 
 corner-state : (a b : Bool) → T (isState 4 (12 + cond a 1 0 + 2 * cond b 1 0))
 unfolding isState states
@@ -113,27 +54,21 @@ corner-state true false = tt
 corner-state false true = tt
 corner-state false false = tt
 
-first-off : (m : ℕ) → T (isMode m) → (z : Point) → Off m (first m z)
-first-off =
-    mode-cases (λ m. (z : Point) → Off m (first m z)) (unfold first isState states in (λ z. tt)) (unfold first in sector-off)
+first-state : (m : ℕ) → T (isMode m) → (z : Point) → T (isState m (first m z))
+first-state =
+    mode-cases (λ m. (z : Point) → T (isState m (first m z))) (unfold first isState states in (λ z. tt)) (unfold first in sector-state)
     (unfold first isState states in (λ z. tt)) (unfold first outer in (λ z. corner-state (leb 2048 (natAbs (z .re))) (leb 2048 (natAbs (z .im)))))
-
-turned-off : (m : ℕ) → T (isMode m) → (k : ℕ) (d : Region) → Off m d → Off m (turnedAnswer m k d)
-unfolding turnedAnswer
-turned-off m hm k (State y) h = turns-state m hm (k * quarterSteps m) y h
-turned-off m hm k Origin h = h
-turned-off m hm k NoSector h = h
 
 pub decide-off : (m : ℕ) → T (isMode m) → (z : Point) → isOrigin z ≡ false → Off m (decide m z)
 unfolding decide
 decide-off m hm z o =
     let k : ℕ = quarters m z in
     let p : Point = turnedBy ((4 - k) % 4) z in
-    subst (λ (b : Bool). Off m (cond b Origin (turnedAnswer m k (first m p)))) (sym o) (turned-off m hm k (first m p) (first-off m hm p))
+    subst (λ (b : Bool). Off m (cond b Origin (State (turnedState m k (first m p))))) (sym o) (turns-state m hm (k * quarterSteps m) (first m p) (first-state m hm p))
 
 pub at-origin : (m : ℕ) (z : Point) → isOrigin z ≡ true → decide m z ≡ Origin
 unfolding decide
-at-origin m z e = ap (λ (b : Bool). cond b Origin (decideBy m (quarters m z) z)) e
+at-origin m z e = ap (λ (b : Bool). cond b Origin (State (decideBy m (quarters m z) z))) e
 
 pub decided-state : DecidedState
 decided-state m z s hm e = go (isOrigin z) refl
@@ -148,12 +83,10 @@ decided-state m z s hm e = go (isOrigin z) refl
 abbrev is : Region → ℕ → Bool
 is (State s) x = eqb s x
 is Origin x = false
-is NoSector x = false
 
 is-state : (d : Region) (x : ℕ) → T (is d x) → d ≡ State x
 is-state (State s) x t = ap State (eqb→eq s x t)
 is-state Origin x t = absurd t
-is-state NoSector x t = absurd t
 
 -- one computed test over modes and states
 sent-tests : (m : ℕ) → T (isMode m) → T (every (λ x. is (decide m (sentPoint m x)) x) (states m))
@@ -165,39 +98,34 @@ decided-sent m x hm hx = is-state (decide m (sentPoint m x)) x (state-at m (λ z
 
 -- TURNS
 
-answers-add : (m i j : ℕ) (d : Region) → turnedAnswer m i (turnedAnswer m j d) ≡ turnedAnswer m (i + j) d
-unfolding turnedAnswer
-answers-add m i j (State s) =
-    ap State (turns-add m (i * quarterSteps m) (j * quarterSteps m) s ∙ ap (λ (n : ℕ). turns m n s) (let e : i * quarterSteps m + j * quarterSteps m ≡ (i + j) * quarterSteps m = omega arith in e))
-answers-add m i j Origin = refl
-answers-add m i j NoSector = refl
+turned-add : (m i j s : ℕ) → turnedState m i (turnedState m j s) ≡ turnedState m (i + j) s
+turned-add m i j s =
+    turns-add m (i * quarterSteps m) (j * quarterSteps m) s ∙ ap (λ (n : ℕ). turns m n s) (let e : i * quarterSteps m + j * quarterSteps m ≡ (i + j) * quarterSteps m = omega arith in e)
 
-answers-whole : (m : ℕ) (d : Region) → T (isMode m) → Off m d → turnedAnswer m 4 d ≡ turnedAnswer m 0 d
-unfolding turnedAnswer
-answers-whole m (State s) hm v =
-    ap State (ap (λ (n : ℕ). turns m n s) (four-quarters m hm) ∙ of-state m s hm v .whole ∙ ap (λ (n : ℕ). turns m n s) (let e : 0 ≡ 0 * quarterSteps m = omega arith in e))
-answers-whole m Origin hm v = absurd v
-answers-whole m NoSector hm v = refl
+turned-whole : (m s : ℕ) → T (isMode m) → T (isState m s) → turnedState m 4 s ≡ s
+turned-whole m s hm v = ap (λ (n : ℕ). turns m n s) (four-quarters m hm) ∙ of-state m s hm v .whole
 
 -- one more turn, after k of them
-next-answer : (m k : ℕ) (d : Region) → T (isMode m) → Off m d → k < 4 → turnedAnswer m ((k + 1) % 4) d ≡ turnedAnswer m 1 (turnedAnswer m k d)
-next-answer m k d hm v h = go (decLe k 2)
+next-turn : (m k s : ℕ) → T (isMode m) → T (isState m s) → k < 4 → turnedState m ((k + 1) % 4) s ≡ turnedState m 1 (turnedState m k s)
+next-turn m k s hm v h = go (decLe k 2) ∙ sym (turned-add m 1 k s)
   where
-    go : Dec (k ≤ 2) → turnedAnswer m ((k + 1) % 4) d ≡ turnedAnswer m 1 (turnedAnswer m k d)
-    go (yes p) = ap (λ (n : ℕ). turnedAnswer m n d) (let e : (k + 1) % 4 ≡ 1 + k = omega arith in e) ∙ sym (answers-add m 1 k d)
+    go : Dec (k ≤ 2) → turnedState m ((k + 1) % 4) s ≡ turnedState m (1 + k) s
+    go (yes p) = ap (λ (n : ℕ). turnedState m n s) (let e : (k + 1) % 4 ≡ 1 + k = omega arith in e)
     go (no p) =
-        ap (λ (n : ℕ). turnedAnswer m n d) (let e : (k + 1) % 4 ≡ 0 = omega (arith, p) in e) ∙ sym (answers-whole m d hm v)
-        ∙ ap (λ (n : ℕ). turnedAnswer m n d) (let e : 4 ≡ 1 + k = omega (arith, p) in e) ∙ sym (answers-add m 1 k d)
+        ap (λ (n : ℕ). turnedState m n s) (let e : (k + 1) % 4 ≡ 0 = omega (arith, p) in e)
+        ∙ ap (λ (n : ℕ). turns m n s) (let e : 0 * quarterSteps m ≡ 0 = omega arith in e)
+        ∙ sym (turned-whole m s hm v) ∙ ap (λ (n : ℕ). turnedState m n s) (let e : 4 ≡ 1 + k = omega (arith, p) in e)
 
 off-decides : (m : ℕ) (z : Point) → T (isMode m) → isOrigin z ≡ false → decide m (turned z) ≡ turnedAnswer m 1 (decide m z)
+unfolding turnedAnswer
 off-decides m z hm o =
-    let i = region-of m z o in
+    let i = region-of m hm z o in
     let j : ℕ = i .by in
     let h : j < 4 = i .small in
     let k : (4 - before j) % 4 ≡ ((4 - j) % 4 + 1) % 4 = eqb→eq _ _ (below-at (λ n. eqb ((4 - before n) % 4) (((4 - n) % 4 + 1) % 4)) 4 tt j h) in
     turn-decide m (turned z) (before j) (omega arith) (turn-before m z j h (i .turn)) (off-turned 1 z o)
-    ∙ ap₂ (λ (n : ℕ) (w : Point). turnedAnswer m n (first m w)) k (same-turn j h)
-    ∙ next-answer m ((4 - j) % 4) (first m (turnedBy j z)) hm (first-off m hm (turnedBy j z)) (omega arith)
+    ∙ ap₂ (λ (n : ℕ) (w : Point). State (turnedState m n (first m w))) k (same-turn j h)
+    ∙ ap State (next-turn m ((4 - j) % 4) (first m (turnedBy j z)) hm (first-state m hm (turnedBy j z)) (omega arith))
     ∙ ap (turnedAnswer m 1) (sym (turn-decide m z j h (i .turn) o))
   where
     same-turn : (j : ℕ) → j < 4 → turnedBy (before j) (turned z) ≡ turnedBy j z
@@ -231,11 +159,10 @@ lost-told m p = go (isOrigin p) refl
 distance-told : (m : ℕ) (p : Point) (d : Region) → distancesOf (measured m p d) ≡ map (λ (s : ℕ). distance m s p) (statesOf (measured m p d))
 distance-told m p (State s) = refl
 distance-told m p Origin = refl
-distance-told m p NoSector = refl
 
 told : (m : ℕ) (p : Point) → Told m p (decision m p)
 unfolding decision
-told m p = record { number-is = refl; state-is = refl; distance-is = distance-told m p (decide m p); lost-is = lost-told m p }
+told m p = record { state-is = refl; distance-is = distance-told m p (decide m p); lost-is = lost-told m p }
 
 -- the ways of the code: at the origin, and off it
 module _ (m : ℕ) (re im : ℤ) where

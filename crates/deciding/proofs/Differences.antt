@@ -38,7 +38,7 @@ same-difference a b c d e = go (decLt a b)
 pub pos-difference : (a : ℕ) → pos a ≡ subℕ a 0
 pos-difference a = ap pos (let q : a ≡ a - 0 = omega arith in q) ∙ sym (sub-pos a 0 (omega arith))
 
-neg-pos : (n : ℕ) → negℤ (pos n) ≡ subℕ 0 n
+pub neg-pos : (n : ℕ) → negℤ (pos n) ≡ subℕ 0 n
 neg-pos zero = refl
 neg-pos (suc n) = ap negsuc (let q : n ≡ suc n - 1 = omega arith in q) ∙ sym (sub-neg 0 (suc n) (omega arith))
 

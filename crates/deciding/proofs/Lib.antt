@@ -3,9 +3,10 @@ pub mod Differences
 pub mod RegionLaws
 pub mod Arcs
 pub mod SizeLaws
-pub mod Squares
 pub mod RingLaws
+pub mod Squares
 pub mod SectorLaws
+pub mod OneRegion
 pub mod DecideLaws
 pub mod DistanceLaws
 pub mod RangeLaws

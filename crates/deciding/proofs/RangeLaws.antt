@@ -1,11 +1,11 @@
 -- Within range the distance of a decided point is bounded, and it is no minimum. Assumes nothing.
-use mathlib.Core.Path.{_≡_, refl, sym, ap, subst}
-use mathlib.Core.Bool.{Bool, true, false, _&&_, cond}
+use mathlib.Core.Path.{_≡_, refl, sym, subst}
+use mathlib.Core.Bool.{Bool, true, false, cond}
 use Prim.Native.Nat.{ℕ, zero, suc, _+_, _*_, _%_, _<_, _≤_}
 use native.Mathlib.Omega.{arith}
 use native.Mathlib.Decide.{decLt}
 use borrow.Author.Tests.{leb-true, leb-false}
-use lib.Dec.{T, eqb, ltb, leb}
+use lib.Dec.{T, ltb, leb}
 use lib.IntN.{ℤ, pos, negsuc, natAbs, subℕ}
 use lib.ListN.{getD}
 use Rattle.line.specs.declared.Point.{Point}
@@ -13,22 +13,21 @@ use Rattle.line.specs.Mode.{isMode, quadrant, nextQuadrant, step, turn, turns, 
 use Rattle.line.specs.Point.{at, coordinateIn, inRange, isOrigin, turned, turnedBy, sent27, levels32, sent32, sentPoint}
 use Rattle.line.proofs.StateLaws.{mode-cases}
 use Rattle.line.proofs.TableLaws.{and-left, and-right, is-true}
-use Rattle.deciding.specs.Decide.{Region, State, Origin, NoSector, inFirst, sector, first, turnedAnswer, quarters, decide}
+use Rattle.deciding.specs.Decide.{Region, State, Origin, inFirst, sector, first, quarters, decide, turnedAnswer}
 use Rattle.deciding.specs.Distance.{squaredDistance, distance}
 use Rattle.deciding.specs.Sizes.{sq}
 use Rattle.deciding.specs.Laws.{MostDistance, NoMinimum}
-use Rattle.deciding.proofs.Arcs.{arc, state1, ring3, state3, decided2, ring4, outerSize, state4, decidedArc}
+use Rattle.deciding.proofs.Arcs.{arc, state1, state2, ring3, state3, ring4, outerSize, state4, stateArc}
 use Rattle.deciding.proofs.DecideLaws.{Off, either, decide-off, at-origin, turn-decides}
 use Rattle.deciding.proofs.Differences.{sub-pos, sub-neg}
 use Rattle.deciding.proofs.DistanceLaws.{squares-most, turn-keeps}
 use Rattle.deciding.proofs.RegionLaws.{base, off-turned}
-use Rattle.deciding.proofs.SizeLaws.{not-zero, arc-decide}
+use Rattle.deciding.proofs.SizeLaws.{not-zero, base-off, arc-decide}
 
 -- what a region says of the distance
 abbrev Within : ℕ → Point → Region → Type 0
 Within m z (State s) = distance m s z ≤ 419430400
 Within m z Origin = Unit {0}
-Within m z NoSector = Unit {0}
 
 -- A POINT WITH re > 0 AND im ≥ 0
 
@@ -57,24 +56,22 @@ module _ (a b : ℕ) (ha : suc a ≤ 16384) (hb : b ≤ 16384) where
   unfolding distance squaredDistance sentPoint sent27
   between = squares-most _ _ 13488 13488 419430400 (difference-most (suc a) 2896 13488 (omega arith) (omega arith)) (difference-most b 2896 13488 (omega arith) (omega arith)) tt
 
-  mode-1 : Within 1 here (decidedArc 1 (arc 0 (suc a) b))
-  unfolding decidedArc state1 sentPoint sent27
+  mode-1 : Within 1 here (State (stateArc 1 (arc 0 (suc a) b)))
+  unfolding stateArc state1 sentPoint sent27
   mode-1 = go (leb b (suc a))
     where
       go : (t : Bool) → distance 1 ((0 + cond t 0 1) % 4 * 2) here ≤ 419430400
       go true = along 1 refl
       go false = across 1 refl
 
-  mode-2 : Within 2 here (decidedArc 2 (arc 0 (suc a) b))
-  unfolding decidedArc decided2 sentPoint sent27
+  mode-2 : Within 2 here (State (stateArc 2 (arc 0 (suc a) b)))
+  unfolding stateArc state2 sentPoint sent27
   mode-2 =
-      either (Within 2 here) (ltb (sq (suc a + b)) (2 * sq (suc a))) (State 0) _ (along 2 refl)
-      (either (Within 2 here) (ltb (sq (suc a + b)) (2 * sq b)) (State 2) _ (across 2 refl)
-      (either (Within 2 here) (ltb (2 * sq (suc a)) (sq (suc a + b))) _ NoSector
-      (either (Within 2 here) (ltb (2 * sq b) (sq (suc a + b))) (State 1) NoSector between tt) tt))
+      let P : ℕ → Type 0 = λ s. distance 2 s here ≤ 419430400 in
+      either P (ltb (sq (suc a + b)) (2 * sq (suc a))) 0 _ (along 2 refl) (either P (ltb (sq (suc a + b)) (2 * sq b)) 2 1 (across 2 refl) between)
 
-  mode-3 : Within 3 here (decidedArc 3 (arc 0 (suc a) b))
-  unfolding decidedArc state3 ring3 distance squaredDistance sentPoint levels32 sent32
+  mode-3 : Within 3 here (State (stateArc 3 (arc 0 (suc a) b)))
+  unfolding stateArc state3 ring3 distance squaredDistance sentPoint levels32 sent32
   mode-3 = go (leb b (2 * suc a)) refl
     where
       go : (t : Bool) → leb b (2 * suc a) ≡ t → distance 3 (getD ring3 ((0 + cond t 0 1) % 4) 0) here ≤ 419430400
@@ -88,8 +85,8 @@ level-most : (x : ℕ) (t : Bool) → x ≤ 16384 → leb 2048 x ≡ t → natAb
 level-most x true h e = let l : 2048 ≤ x = leb-true 2048 x e in difference-most x 3072 13312 (omega arith) (omega arith)
 level-most x false h e = let l : x < 2048 = leb-false 2048 x e in difference-most x 1024 13312 (omega arith) (omega arith)
 
-mode-4 : (a b : ℕ) → suc a ≤ 16384 → b ≤ 16384 → Within 4 (at (pos (suc a)) (pos b)) (decidedArc 4 (arc 0 (suc a) b))
-unfolding decidedArc state4 outerSize ring4 distance squaredDistance sentPoint levels32 sent32
+mode-4 : (a b : ℕ) → suc a ≤ 16384 → b ≤ 16384 → Within 4 (at (pos (suc a)) (pos b)) (State (stateArc 4 (arc 0 (suc a) b)))
+unfolding stateArc state4 outerSize ring4 distance squaredDistance sentPoint levels32 sent32
 mode-4 a zero ha hb = go (leb 2048 (suc a)) refl
   where
     go : (t : Bool) → leb 2048 (suc a) ≡ t → distance 4 (getD ring4 ((0 + 3) % 4 * 4 + cond t 1 0 * 2) 0) (at (pos (suc a)) (pos 0)) ≤ 419430400
@@ -116,19 +113,17 @@ module _ (m : ℕ) (hm : T (isMode m)) where
           subst (λ (k : ℕ). distance m (turns m k s) (turned z) ≤ 419430400) (let e : quarterSteps m ≡ 1 * quarterSteps m = omega arith in e)
           (subst (λ (n : ℕ). n ≤ 419430400) (sym (turn-keeps m s z hm v)) w)
       go Origin v w = tt
-      go NoSector v w = tt
 
   turns-within : (k : ℕ) (z : Point) → isOrigin z ≡ false → Within m z (decide m z) → Within m (turnedBy k z) (decide m (turnedBy k z))
   turns-within zero z o w = w
   turns-within (suc k) z o w = turned-within (turnedBy k z) (off-turned k z o) (turns-within k z o w)
 
-  arc-within : (a b : ℕ) → suc a ≤ 16384 → b ≤ 16384 → Within m (base m a b) (decidedArc m (arc 0 (suc a) b))
+  arc-within : (a b : ℕ) → suc a ≤ 16384 → b ≤ 16384 → Within m (base m a b) (State (stateArc m (arc 0 (suc a) b)))
   arc-within a b ha hb =
-      mode-cases (λ n. Within n (at (pos (suc a)) (pos b)) (decidedArc n (arc 0 (suc a) b))) (mode-1 a b ha hb) (mode-2 a b ha hb) (mode-3 a b ha hb) (mode-4 a b ha hb) m hm
+      mode-cases (λ n. Within n (at (pos (suc a)) (pos b)) (State (stateArc n (arc 0 (suc a) b)))) (mode-1 a b ha hb) (mode-2 a b ha hb) (mode-3 a b ha hb) (mode-4 a b ha hb) m hm
 
   quarter-within : (k a b : ℕ) → suc a ≤ 16384 → b ≤ 16384 → Within m (turnedBy k (base m a b)) (decide m (turnedBy k (base m a b)))
-  unfolding isOrigin
-  quarter-within k a b ha hb = turns-within k (base m a b) (ap (λ (t : Bool). t && eqb b 0) (not-zero a)) (subst (Within m (base m a b)) (sym (arc-decide m 0 a b (omega arith))) (arc-within a b ha hb))
+  quarter-within k a b ha hb = turns-within k (base m a b) (base-off m a b) (subst (Within m (base m a b)) (sym (arc-decide m 0 a b (omega arith))) (arc-within a b ha hb))
 
   sizes-within : (re im : ℤ) → natAbs re ≤ 16384 → natAbs im ≤ 16384 → isOrigin (at re im) ≡ false → Within m (at re im) (decide m (at re im))
   unfolding isOrigin

@@ -9,7 +9,7 @@ use lib.Dec.{eqb, leb, eqb→eq}
 use lib.IntN.{ℤ, pos, negsuc, natAbs, negℤ-negℤ, subℕ, _+ℤ_}
 use Rattle.line.specs.declared.Point.{Point}
 use Rattle.line.specs.Point.{at, isOrigin, turned, turnedBy}
-use Rattle.deciding.specs.Decide.{within45, inFirst, first, turnedAnswer, quarters, decide}
+use Rattle.deciding.specs.Decide.{State, within45, inFirst, first, turnedState, quarters, decide}
 use Rattle.line.proofs.ByMode.{mode-1, mode-2, mode-3, mode-4}
 use Rattle.line.proofs.TableLaws.{below-at, pairs-below}
 use Rattle.deciding.proofs.Differences.{leb-same, pos-difference, negated-difference, sum-difference, less-difference, below-difference, triple-difference, within-difference}
@@ -47,7 +47,7 @@ turn-quarters m z j h t =
     (eqb→eq _ _ (below-at (λ i. eqb (cond (eqb 0 i) 0 (cond (eqb 3 i) 1 (cond (eqb 2 i) 2 3))) ((4 - i) % 4)) 4 tt j h))
 
 -- the answer for a point off the origin whose turn by j lies in the first region
-pub turn-decide : (m : ℕ) (z : Point) (j : ℕ) → j < 4 → Turn m z j → isOrigin z ≡ false → decide m z ≡ turnedAnswer m ((4 - j) % 4) (first m (turnedBy j z))
+pub turn-decide : (m : ℕ) (z : Point) (j : ℕ) → j < 4 → Turn m z j → isOrigin z ≡ false → decide m z ≡ State (turnedState m ((4 - j) % 4) (first m (turnedBy j z)))
 unfolding decide
 turn-decide m z j h t o =
     let e : (4 - (4 - j) % 4) % 4 ≡ j = eqb→eq _ _ (below-at (λ i. eqb ((4 - (4 - i) % 4) % 4) i) 4 tt j h) in
@@ -58,7 +58,7 @@ pub turn-add : (i k : ℕ) (z : Point) → turnedBy i (turnedBy k z) ≡ turnedB
 turn-add zero k z = ap (λ (n : ℕ). turnedBy n z) (let e : k ≡ 0 + k = omega arith in e)
 turn-add (suc i) k z = ap turned (turn-add i k z) ∙ ap (λ (n : ℕ). turnedBy n z) (let e : suc (i + k) ≡ suc i + k = omega arith in e)
 
-turn-mod : (n : ℕ) (z : Point) → n < 8 → turnedBy n z ≡ turnedBy (n % 4) z
+pub turn-mod : (n : ℕ) (z : Point) → n < 8 → turnedBy n z ≡ turnedBy (n % 4) z
 turn-mod zero z h = refl
 turn-mod (suc zero) z h = refl
 turn-mod (suc (suc zero)) z h = refl
@@ -94,14 +94,14 @@ turn-by m (suc k) z j h t =
 
 -- the answer for k turns of such a point
 pub turned-decide : (m k : ℕ) (z : Point) (j : ℕ) → k < 4 → j < 4 → Turn m z j → isOrigin z ≡ false
-    → decide m (turnedBy k z) ≡ turnedAnswer m ((k + 4 - j) % 4) (first m (turnedBy j z))
+    → decide m (turnedBy k z) ≡ State (turnedState m ((k + 4 - j) % 4) (first m (turnedBy j z)))
 turned-decide m k z j h l t o =
     let i : ℕ = (j + 3 * k) % 4 in
     let li : i < 4 = omega arith in
     let q : (4 - i) % 4 ≡ (k + 4 - j) % 4 = eqb→eq _ _ (pairs-below (λ c d. eqb ((4 - (d + 3 * c) % 4) % 4) ((c + 4 - d) % 4)) 4 4 tt k j h l) in
     let w : (i + k) % 4 ≡ j = eqb→eq _ _ (pairs-below (λ c d. eqb (((d + 3 * c) % 4 + c) % 4) d) 4 4 tt k j h l) in
     turn-decide m (turnedBy k z) i li (turn-by m k z j l t) (off-turned k z o)
-    ∙ ap₂ (λ (c : ℕ) (p : Point). turnedAnswer m c (first m p)) q
+    ∙ ap₂ (λ (c : ℕ) (p : Point). State (turnedState m c (first m p))) q
     (turn-add i k z ∙ turn-mod (i + k) z (omega arith) ∙ ap (λ (n : ℕ). turnedBy n z) w)
 
 -- Where a turn of a point of the plane's first quarter, re > 0 and im ≥ 0, lies in the first region

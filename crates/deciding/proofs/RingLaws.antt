@@ -5,7 +5,7 @@ use mathlib.Core.List.{List}
 use Prim.Native.Nat.{ℕ, zero, suc, _+_, _*_, _%_, _<_, _≤_}
 use native.Mathlib.Omega.{arith}
 use native.Mathlib.Nat.{mul-pos}
-use native.Mathlib.Decide.{decLe, decLt}
+use native.Mathlib.Decide.{decLe}
 use borrow.Author.Tests.{le-leb, lt-leb, lt-ltb, le-ltb}
 use lib.Dec.{T, eqb, leb, ltb, eqb→eq}
 use lib.ListN.{getD}
@@ -16,13 +16,12 @@ use mir.Val.{toZ, ofZ}
 use Rattle.line.specs.Table.{below, every}
 use Rattle.line.specs.Mode.{byMode}
 use Rattle.line.specs.Point.{at, isOrigin}
-use Rattle.deciding.specs.Decide.{Region, State, Origin, decide}
+use Rattle.deciding.specs.Decide.{State, Origin, decide}
 use Rattle.deciding.specs.Sizes.{bitOf, belowOf, quadrantOf, sq, farOf, ringOf, ringIndex}
 use Rattle.line.proofs.ByMode.{mode-4}
 use Rattle.line.proofs.TableLaws.{pairs-below}
-use Rattle.deciding.proofs.Arcs.{arc, state1, ring3, state3, decided2, ring4, outerSize, state4, decidedArc}
+use Rattle.deciding.proofs.Arcs.{arc, state1, state2, ring3, state3, ring4, outerSize, state4, stateArc}
 use Rattle.deciding.proofs.SizeLaws.{not-zero, arc-decide}
-use Rattle.deciding.proofs.Squares.{strict}
 
 -- A QUARTER IN THE RING
 
@@ -62,21 +61,13 @@ not-past a b = go (decLe b a)
     go (yes h) = rw (le-leb b a h, le-ltb a b h)
     go (no h) = let l : a < b = omega (arith, h) in rw (lt-leb b a l, lt-ltb a b l)
 
--- mode 2's arc is in a sector
+-- mode 2's arc by its sector
 bySector : ℕ → Bool → Bool → ℕ
 bySector k t u = cond u (k * 2) (cond t ((k * 2 + 2) % 8) (k * 2 + 1))
 
-sector-state : (k a b : ℕ) → 0 < a → decided2 (arc k a b) ≡ State (bySector k (ltb (sq (a + b)) (2 * sq b)) (ltb (sq (b + a)) (2 * sq a)))
-unfolding decided2 bySector
-sector-state k a b p = rw (let e : b + a ≡ a + b = omega arith in e) (go (decLt (sq (a + b)) (2 * sq a)) (decLt (sq (a + b)) (2 * sq b)))
-  where
-    go : Dec (sq (a + b) < 2 * sq a) → Dec (sq (a + b) < 2 * sq b) → decided2 (arc k a b) ≡ State (bySector k (ltb (sq (a + b)) (2 * sq b)) (ltb (sq (a + b)) (2 * sq a)))
-    go (yes u) v = rw (lt-ltb (sq (a + b)) (2 * sq a) u)
-    go (no u) (yes v) = rw (le-ltb (sq (a + b)) (2 * sq a) (omega (arith, u)), lt-ltb (sq (a + b)) (2 * sq b) v)
-    go (no u) (no v) =
-        let i : 2 * sq a ≤ sq (a + b) = omega (arith, u) in
-        let j : 2 * sq b ≤ sq (a + b) = omega (arith, v) in
-        rw (le-ltb (sq (a + b)) (2 * sq a) i, le-ltb (sq (a + b)) (2 * sq b) j, lt-ltb (2 * sq a) (sq (a + b)) (strict (a + b) a (omega arith) i), lt-ltb (2 * sq b) (sq (a + b)) (strict (a + b) b (omega arith) j))
+sector-state : (k a b : ℕ) → state2 (arc k a b) ≡ bySector k (ltb (sq (a + b)) (2 * sq b)) (ltb (sq (b + a)) (2 * sq a))
+unfolding state2 bySector
+sector-state k a b = rw (let e : b + a ≡ a + b = omega arith in e)
 
 -- THE ARCS IN THE RING
 
@@ -113,39 +104,39 @@ high n q k a b =
     let u : leb 2048 a ≡ farOf m b a = sym (mode-4 _ _ _ _ m (omega arith) f g) in
     ap (λ (x : List ℕ). getD x (quad q + part k (leb 2048 b) (leb 2048 a)) 0) r ∙ ap₂ (λ (x y : Bool). inRing m q k x y) t u
 
-arc-high : (n : ℕ) (k a b : ℕ) → let m : ℕ = suc (suc (suc (suc n))) in decidedArc m (arc k a b) ≡ State (state4 (arc k a b))
-unfolding decidedArc
+arc-high : (n : ℕ) (k a b : ℕ) → let m : ℕ = suc (suc (suc (suc n))) in stateArc m (arc k a b) ≡ state4 (arc k a b)
+unfolding stateArc
 arc-high n k a b = mode-4 _ _ _ _ (suc (suc (suc (suc n)))) (omega arith) (λ e. omega arith) (λ e. omega arith)
 
-arc-in : (m k a b : ℕ) → k < 4 → decidedArc m (arc k (suc a) (suc b)) ≡ State (inRing m k k (farOf m (suc a) (suc b)) (farOf m (suc b) (suc a)))
-unfolding decidedArc farOf ringOf state1 state3 state4 outerSize arcState
+arc-in : (m k a b : ℕ) → k < 4 → stateArc m (arc k (suc a) (suc b)) ≡ inRing m k k (farOf m (suc a) (suc b)) (farOf m (suc b) (suc a))
+unfolding stateArc farOf ringOf state1 state3 state4 outerSize arcState
 arc-in zero k a b l =
-    ap State (ap (λ (n : ℕ). (k + n) % 4 * 2) (not-past (suc a) (suc b)) ∙ in-ring 0 k (omega arith) l (ltb (suc a) (suc b)) (ltb (suc b) (suc a)))
+    ap (λ (n : ℕ). (k + n) % 4 * 2) (not-past (suc a) (suc b)) ∙ in-ring 0 k (omega arith) l (ltb (suc a) (suc b)) (ltb (suc b) (suc a))
 arc-in (suc zero) k a b l = arc-in zero k a b l
 arc-in (suc (suc zero)) k a b l =
-    sector-state k (suc a) (suc b) (omega arith)
-    ∙ ap State (in-ring 2 k (omega arith) l (ltb (sq (suc a + suc b)) (2 * sq (suc b))) (ltb (sq (suc b + suc a)) (2 * sq (suc a))))
+    sector-state k (suc a) (suc b)
+    ∙ in-ring 2 k (omega arith) l (ltb (sq (suc a + suc b)) (2 * sq (suc b))) (ltb (sq (suc b + suc a)) (2 * sq (suc a)))
 arc-in (suc (suc (suc zero))) k a b l =
-    ap State (ap (λ (n : ℕ). getD ring3 ((k + n) % 4) 0) (not-past (2 * suc a) (suc b)) ∙ in-ring 3 k (omega arith) l (ltb (2 * suc a) (suc b)) (ltb (2 * suc b) (suc a)))
+    ap (λ (n : ℕ). getD ring3 ((k + n) % 4) 0) (not-past (2 * suc a) (suc b)) ∙ in-ring 3 k (omega arith) l (ltb (2 * suc a) (suc b)) (ltb (2 * suc b) (suc a))
 arc-in (suc (suc (suc (suc n)))) k a b l =
     arc-high n k (suc a) (suc b)
-    ∙ ap State (rw (not-zero b) (in-ring 4 k (omega arith) l (leb 2048 (suc b)) (leb 2048 (suc a))) ∙ high n k k (suc a) (suc b))
+    ∙ rw (not-zero b) (in-ring 4 k (omega arith) l (leb 2048 (suc b)) (leb 2048 (suc a))) ∙ high n k k (suc a) (suc b)
 
-arc-on : (m k a : ℕ) → k < 4 → decidedArc m (arc k (suc a) 0) ≡ State (inRing m ((k + 3) % 4) k (farOf m (suc a) 0) (farOf m 0 (suc a)))
-unfolding decidedArc farOf ringOf state1 state3 state4 outerSize axisState axisFar
+arc-on : (m k a : ℕ) → k < 4 → stateArc m (arc k (suc a) 0) ≡ inRing m ((k + 3) % 4) k (farOf m (suc a) 0) (farOf m 0 (suc a))
+unfolding stateArc farOf ringOf state1 state3 state4 outerSize axisState axisFar
 arc-on zero k a l =
-    rw (le-leb 0 (suc a) (omega arith), le-ltb (suc a) 0 (omega arith), lt-ltb 0 (suc a) (omega arith)) (ap State (on-ring 0 k (omega arith) l true))
+    rw (le-leb 0 (suc a) (omega arith), le-ltb (suc a) 0 (omega arith), lt-ltb 0 (suc a) (omega arith)) (on-ring 0 k (omega arith) l true)
 arc-on (suc zero) k a l = arc-on zero k a l
 arc-on (suc (suc zero)) k a l =
     let p : 0 < suc a * suc a = mul-pos (omega arith) (omega arith) in
-    sector-state k (suc a) 0 (omega arith)
-    ∙ ap₂ (λ (t u : Bool). State (bySector k t u)) (le-ltb (sq (suc a + 0)) (2 * sq 0) (omega arith)) (lt-ltb (sq (0 + suc a)) (2 * sq (suc a)) (omega arith))
-    ∙ ap State (on-ring 2 k (omega arith) l true)
-    ∙ ap₂ (λ (t u : Bool). State (inRing 2 ((k + 3) % 4) k t u)) (sym (le-ltb (sq (suc a + 0)) (2 * sq 0) (omega arith))) (sym (lt-ltb (sq (0 + suc a)) (2 * sq (suc a)) (omega arith)))
+    sector-state k (suc a) 0
+    ∙ ap₂ (λ (t u : Bool). bySector k t u) (le-ltb (sq (suc a + 0)) (2 * sq 0) (omega arith)) (lt-ltb (sq (0 + suc a)) (2 * sq (suc a)) (omega arith))
+    ∙ on-ring 2 k (omega arith) l true
+    ∙ ap₂ (λ (t u : Bool). inRing 2 ((k + 3) % 4) k t u) (sym (le-ltb (sq (suc a + 0)) (2 * sq 0) (omega arith))) (sym (lt-ltb (sq (0 + suc a)) (2 * sq (suc a)) (omega arith)))
 arc-on (suc (suc (suc zero))) k a l =
-    rw (le-leb 0 (2 * suc a) (omega arith), le-ltb (2 * suc a) 0 (omega arith), lt-ltb 0 (suc a) (omega arith)) (ap State (on-ring 3 k (omega arith) l true))
+    rw (le-leb 0 (2 * suc a) (omega arith), le-ltb (2 * suc a) 0 (omega arith), lt-ltb 0 (suc a) (omega arith)) (on-ring 3 k (omega arith) l true)
 arc-on (suc (suc (suc (suc n)))) k a l =
-    arc-high n k (suc a) 0 ∙ ap State (on-ring 4 k (omega arith) l (leb 2048 (suc a)) ∙ high n ((k + 3) % 4) k (suc a) 0)
+    arc-high n k (suc a) 0 ∙ on-ring 4 k (omega arith) l (leb 2048 (suc a)) ∙ high n ((k + 3) % 4) k (suc a) 0
 
 -- A POINT IN THE RING
 
@@ -164,21 +155,22 @@ below-positive n true = le-ltb (suc n) 1 (omega arith)
 below-positive n false = le-ltb (suc n) 0 (omega arith)
 
 -- the state of a point in the quadrant q, from that of turns of one with re > 0 and im ≥ 0
-from-arc : (m q x y : ℕ) (re im : ℤ) (d : Region) → quadrantOf re im ≡ q → natAbs re ≡ x → natAbs im ≡ y → d ≡ State (getD (ringOf m) (q + (2 * bitOf (farOf m y x) + bitOf (farOf m x y))) 0) → State (getD (ringOf m) (ringIndex m re im) 0) ≡ d
+from-arc : (m q x y s : ℕ) (re im : ℤ) → quadrantOf re im ≡ q → natAbs re ≡ x → natAbs im ≡ y → decide m (at re im) ≡ State s
+    → s ≡ getD (ringOf m) (q + (2 * bitOf (farOf m y x) + bitOf (farOf m x y))) 0 → State (getD (ringOf m) (ringIndex m re im) 0) ≡ decide m (at re im)
 unfolding ringIndex
-from-arc m q x y re im d eq ex ey e = rw (eq, ex, ey) (sym e)
+from-arc m q x y s re im eq ex ey d e = rw (eq, ex, ey) (ap State (sym e) ∙ sym d)
 
 pub by-ring : (m : ℕ) (re im : ℤ) → isOrigin (at re im) ≡ false → State (getD (ringOf m) (ringIndex m re im) 0) ≡ decide m (at re im)
 unfolding isOrigin quadrantOf
 by-ring m (pos zero) (pos zero) e = let z : _≡_ {A = Bool} true false = e in cc
-by-ring m (pos (suc x)) (pos zero) e = from-arc m 8 (suc x) 0 _ _ _ (simp (below-positive, below-zero)) refl refl (arc-decide m 0 x 0 (omega arith) ∙ arc-on m 0 x (omega arith))
-by-ring m (pos (suc x)) (pos (suc y)) e = from-arc m 0 (suc x) (suc y) _ _ _ (simp below-positive) refl refl (arc-decide m 0 x (suc y) (omega arith) ∙ arc-in m 0 x y (omega arith))
-by-ring m (pos zero) (pos (suc y)) e = from-arc m 0 0 (suc y) _ _ _ (simp (below-positive, below-zero)) refl refl (arc-decide m 1 y 0 (omega arith) ∙ arc-on m 1 y (omega arith))
-by-ring m (negsuc x) (pos (suc y)) e = from-arc m 4 (suc x) (suc y) _ _ _ (simp (below-positive, below-negative)) refl refl (arc-decide m 1 y (suc x) (omega arith) ∙ arc-in m 1 y x (omega arith))
-by-ring m (negsuc x) (pos zero) e = from-arc m 4 (suc x) 0 _ _ _ (simp (below-zero, below-negative)) refl refl (arc-decide m 2 x 0 (omega arith) ∙ arc-on m 2 x (omega arith))
-by-ring m (negsuc x) (negsuc y) e = from-arc m 12 (suc x) (suc y) _ _ _ (simp below-negative) refl refl (arc-decide m 2 x (suc y) (omega arith) ∙ arc-in m 2 x y (omega arith))
-by-ring m (pos zero) (negsuc y) e = from-arc m 12 0 (suc y) _ _ _ (simp (below-zero, below-negative)) refl refl (arc-decide m 3 y 0 (omega arith) ∙ arc-on m 3 y (omega arith))
-by-ring m (pos (suc x)) (negsuc y) e = from-arc m 8 (suc x) (suc y) _ _ _ (simp (below-positive, below-negative)) refl refl (arc-decide m 3 y (suc x) (omega arith) ∙ arc-in m 3 y x (omega arith))
+by-ring m (pos (suc x)) (pos zero) e = from-arc m 8 (suc x) 0 _ _ _ (simp (below-positive, below-zero)) refl refl (arc-decide m 0 x 0 (omega arith)) (arc-on m 0 x (omega arith))
+by-ring m (pos (suc x)) (pos (suc y)) e = from-arc m 0 (suc x) (suc y) _ _ _ (simp below-positive) refl refl (arc-decide m 0 x (suc y) (omega arith)) (arc-in m 0 x y (omega arith))
+by-ring m (pos zero) (pos (suc y)) e = from-arc m 0 0 (suc y) _ _ _ (simp (below-positive, below-zero)) refl refl (arc-decide m 1 y 0 (omega arith)) (arc-on m 1 y (omega arith))
+by-ring m (negsuc x) (pos (suc y)) e = from-arc m 4 (suc x) (suc y) _ _ _ (simp (below-positive, below-negative)) refl refl (arc-decide m 1 y (suc x) (omega arith)) (arc-in m 1 y x (omega arith))
+by-ring m (negsuc x) (pos zero) e = from-arc m 4 (suc x) 0 _ _ _ (simp (below-zero, below-negative)) refl refl (arc-decide m 2 x 0 (omega arith)) (arc-on m 2 x (omega arith))
+by-ring m (negsuc x) (negsuc y) e = from-arc m 12 (suc x) (suc y) _ _ _ (simp below-negative) refl refl (arc-decide m 2 x (suc y) (omega arith)) (arc-in m 2 x y (omega arith))
+by-ring m (pos zero) (negsuc y) e = from-arc m 12 0 (suc y) _ _ _ (simp (below-zero, below-negative)) refl refl (arc-decide m 3 y 0 (omega arith)) (arc-on m 3 y (omega arith))
+by-ring m (pos (suc x)) (negsuc y) e = from-arc m 8 (suc x) (suc y) _ _ _ (simp (below-positive, below-negative)) refl refl (arc-decide m 3 y (suc x) (omega arith)) (arc-in m 3 y x (omega arith))
 
 pub ring-law : (m : ℕ) (re im : ℤ) (ring : List ℕ) (n : ℕ) → n ≡ getD ring (ringIndex m re im) 0 → ring ≡ ringOf m → n ≡ getD (ringOf m) (ringIndex m re im) 0
 ring-law m re im ring n q e = q ∙ ap (λ (l : List ℕ). getD l (ringIndex m re im) 0) e

@@ -8,11 +8,10 @@ use Rattle.line.specs.declared.Point.{Point}
 use Rattle.line.specs.Mode.{byMode, turns, quarterSteps}
 use Rattle.line.specs.Point.{isOrigin, turnedBy}
 
--- where a point lies: in the region of a state, at the origin, or, in mode 2, in none of the eight sectors
+-- where a point lies: in the region of a state, or at the origin
 pub data Region : Type 0 where
   State : ℕ → Region
   Origin : Region
-  NoSector : Region
 
 -- more than -45° and at most +45° from a direction: x along it, y across it
 abbrev pub within45 : ℤ → ℤ → Bool
@@ -30,43 +29,43 @@ inFirst m z =
 abbrev pub square : ℤ → ℤ
 square x = x *ℤ x
 
--- Mode 2, im ≥ 0 and re > 0: nearer 0° than 45°, nearer 90° than 45°, nearer 45° than both, or on an edge
-unfoldable pub sector : Point → Region
+-- Mode 2, im ≥ 0 and re > 0: nearer 0° than 45° when (re + im)² < 2·re², nearer 90° when (re + im)² < 2·im², and else nearest 45°
+unfoldable pub sector : Point → ℕ
 sector z =
     let s : ℤ = square (z .re +ℤ z .im) in
-    let x : ℤ = pos 2 *ℤ square (z .re) in
-    let y : ℤ = pos 2 *ℤ square (z .im) in
-    cond (ltZ s x) (State 0) (cond (ltZ s y) (State 2) (cond (ltZ x s && ltZ y s) (State 1) NoSector))
+    cond (ltZ s (pos 2 *ℤ square (z .re))) 0 (cond (ltZ s (pos 2 *ℤ square (z .im))) 2 1)
 
 -- Mode 4: a coordinate of size 2048 or more is level 3, below it level 1. In quadrant I the states are
 -- 1100 at (1, 1), 1101 at (3, 1), 1110 at (1, 3), 1111 at (3, 3).
 unfoldable pub outer : ℤ → ℕ
 outer x = cond (leb 2048 (natAbs x)) 1 0
 
--- the answer for a point of the first region
-unfoldable pub first : ℕ → Point → Region
-first m z = byMode m (State 0) (sector z) (State 13) (State (12 + outer (z .re) + 2 * outer (z .im)))
-
--- an answer turned by k turns of 90°
-unfoldable pub turnedAnswer : ℕ → ℕ → Region → Region
-turnedAnswer m k (State s) = State (turns m (k * quarterSteps m) s)
-turnedAnswer m k Origin = Origin
-turnedAnswer m k NoSector = NoSector
+-- the state of a point of the first region
+unfoldable pub first : ℕ → Point → ℕ
+first m z = byMode m 0 (sector z) 13 (12 + outer (z .re) + 2 * outer (z .im))
 
 -- how many turns of 90° lead from the first region to the point
 unfoldable pub quarters : ℕ → Point → ℕ
 quarters m z = cond (inFirst m z) 0 (cond (inFirst m (turnedBy 3 z)) 1 (cond (inFirst m (turnedBy 2 z)) 2 3))
 
--- the point is turned back into the first region, and its answer turned forth
-abbrev pub decideBy : ℕ → ℕ → Point → Region
-decideBy m k z = turnedAnswer m k (first m (turnedBy ((4 - k) % 4) z))
+-- a state turned by k turns of 90°
+abbrev pub turnedState : ℕ → ℕ → ℕ → ℕ
+turnedState m k s = turns m (k * quarterSteps m) s
+
+-- the point is turned back into the first region, and its state turned forth
+abbrev pub decideBy : ℕ → ℕ → Point → ℕ
+decideBy m k z = turnedState m k (first m (turnedBy ((4 - k) % 4) z))
 
 -- the origin is no state
 unfoldable pub decide : ℕ → Point → Region
-decide m z = cond (isOrigin z) Origin (decideBy m (quarters m z) z)
+decide m z = cond (isOrigin z) Origin (State (decideBy m (quarters m z) z))
 
--- the state that a point is decided as; of another answer 0, which is not asked for
+-- an answer turned by k turns of 90°
+unfoldable pub turnedAnswer : ℕ → ℕ → Region → Region
+turnedAnswer m k (State s) = State (turnedState m k s)
+turnedAnswer m k Origin = Origin
+
+-- the state that a point is decided as; of the origin 0, which is not asked for
 abbrev pub stateIn : Region → ℕ
 stateIn (State y) = y
 stateIn Origin = 0
-stateIn NoSector = 0

@@ -5,8 +5,8 @@ use lib.IntN.{ℤ, natAbs, _-ℤ_}
 use Rattle.line.specs.declared.Point.{Point}
 use Rattle.line.specs.Point.{sentPoint}
 use Rattle.deciding.specs.declared.Decision.{Decision}
-use Rattle.deciding.specs.declared.Decision.the-variants.{State as DecidedAs, Origin as AtOrigin, NoSector as InNoSector}
-use Rattle.deciding.specs.Decide.{Region, State, Origin, NoSector, decide}
+use Rattle.deciding.specs.declared.Decision.the-variants.{State as DecidedAs, Origin as AtOrigin}
+use Rattle.deciding.specs.Decide.{Region, State, Origin, decide}
 
 -- how far apart two coordinates are
 abbrev pub apart : ℤ → ℤ → ℕ
@@ -20,11 +20,10 @@ squaredDistance p q = apart (p .re) (q .re) * apart (p .re) (q .re) + apart (p .
 unfoldable pub distance : ℕ → ℕ → Point → ℕ
 distance m s z = squaredDistance z (sentPoint m s)
 
--- what deciding gives: the state with its distance; the origin and a point in no sector have none
+-- what deciding gives: the state with its distance; the origin has none
 abbrev pub measured : ℕ → Point → Region → Decision
 measured m z (State s) = DecidedAs s (record { 0 = distance m s z })
 measured m z Origin = AtOrigin
-measured m z NoSector = InNoSector
 
 unfoldable pub decision : ℕ → Point → Decision
 decision m z = measured m z (decide m z)

@@ -1,5 +1,5 @@
 -- What `decide` tells in document 01's and 02's terms, and what holds of it: the statements, whose proofs are in proofs/DecideLaws,
--- proofs/SectorLaws, proofs/DistanceLaws and proofs/RangeLaws.
+-- proofs/OneRegion, proofs/DistanceLaws and proofs/RangeLaws.
 use Prim.Native.Nat.{ℕ, _<_, _≤_}
 use mathlib.Core.Path.{_≡_}
 use mathlib.Core.Bool.{false, cond}
@@ -9,47 +9,52 @@ use lib.Dec.{T, eqb}
 use lib.IntN.{pos}
 use Rattle.line.specs.declared.Point.{Point}
 use Rattle.deciding.specs.declared.Decision.{Decision}
-use Rattle.deciding.specs.declared.Decision.the-variants.{State as DecidedAs, Origin as AtOrigin, NoSector as InNoSector}
+use Rattle.deciding.specs.declared.Decision.the-variants.{State as DecidedAs, Origin as AtOrigin}
 use Rattle.line.specs.Mode.{isMode, isState, turns, quarterSteps}
-use Rattle.line.specs.Point.{at, inRange, isOrigin, turned, turnedBy, sentPoint}
-use Rattle.deciding.specs.Decide.{State, NoSector, inFirst, turnedAnswer, decide}
+use Rattle.line.specs.Point.{at, inRange, isOrigin, turned, sentPoint}
+use Rattle.deciding.specs.Decide.{State, turnedAnswer, decide}
+use Rattle.deciding.specs.Regions.{inSector, inRegion}
 use Rattle.deciding.specs.Distance.{distance, decision}
 
 -- "where an answer is an enum, a definition gives this paper's number and values for each of the enum's cases"
-
--- 0, or number 10: a mode 2 point off the origin in none of the eight sectors
-abbrev pub numberOf : Decision → ℕ
-numberOf (DecidedAs s d) = 0
-numberOf AtOrigin = 0
-numberOf InNoSector = 10
 
 -- the state, if the point is one
 abbrev pub statesOf : Decision → List ℕ
 statesOf (DecidedAs s d) = s ∷ []
 statesOf AtOrigin = []
-statesOf InNoSector = []
 
 -- the squared distance to its sent point, in units
 abbrev pub distancesOf : Decision → List ℕ
 distancesOf (DecidedAs s d) = d .0 ∷ []
 distancesOf AtOrigin = []
-distancesOf InNoSector = []
 
 -- the intervals that are lost: the origin is a gap of one
 abbrev pub lostOf : Decision → ℕ
 lostOf (DecidedAs s d) = 0
 lostOf AtOrigin = 1
-lostOf InNoSector = 0
 
 pub record Told (m : ℕ) (p : Point) (r : Decision) : Type 0 where
-  pub number-is : numberOf r ≡ numberOf (decision m p)
   pub state-is : statesOf r ≡ statesOf (decision m p)
   pub distance-is : distancesOf r ≡ map (λ (s : ℕ). distance m s p) (statesOf r)
   pub lost-is : lostOf r ≡ cond (isOrigin p) 1 0
 
--- each point off the origin lies in exactly one turn of the first region
+-- Document 02, R-5: "every mode 2 point within range and off the origin falls into a sector, and into only one." It is so of every point
+-- off the origin, and that sector's state is the one it is decided as.
+abbrev pub InOneSector : Type 0
+InOneSector =
+    (p : Point) → isOrigin p ≡ false → (k : ℕ) × (k < 8) × (decide 2 p ≡ State k) × ((i : ℕ) → i < 8 → inSector i p ≡ eqb i k)
+
+-- the same in every mode: each point off the origin lies in the region of one state, in no other's, and is decided as that state
 abbrev pub InOneRegion : Type 0
-InOneRegion = (m : ℕ) (p : Point) → isOrigin p ≡ false → (k : ℕ) × (k < 4) × ((i : ℕ) → i < 4 → inFirst m (turnedBy i p) ≡ eqb i k)
+InOneRegion =
+    (m : ℕ) (p : Point) → T (isMode m) → isOrigin p ≡ false
+    → (s : ℕ) × T (isState m s) × (decide m p ≡ State s) × ((x : ℕ) → T (isState m x) → inRegion m x p ≡ eqb x s)
+
+-- How near points within range come to an edge: at (13860, 5741) the squares are 384,199,201 and 2 times 192,099,600, one apart, at
+-- (5741, 2378) 65,918,161 and 2 times 32,959,081; the next such point is out of range.
+pub record NextToEdge : Type 0 where
+  pub past-edge : T (inSector 1 (at (pos 13860) (pos 5741)))
+  pub before-edge : T (inSector 0 (at (pos 5741) (pos 2378)))
 
 -- a decided state is one of the mode
 abbrev pub DecidedState : Type 0
@@ -62,10 +67,6 @@ DecidedSent = (m s : ℕ) → T (isMode m) → T (isState m s) → decide m (sen
 -- a point turned by 90° is decided as the answer turned by 90°
 abbrev pub TurnDecides : Type 0
 TurnDecides = (m : ℕ) (p : Point) → T (isMode m) → decide m (turned p) ≡ turnedAnswer m 1 (decide m p)
-
--- number 10 is never met: no point is in none of the eight sectors
-abbrev pub EachInASector : Type 0
-EachInASector = (m : ℕ) (p : Point) → decide m p ≡ NoSector → ⊥
 
 -- THE DISTANCE
 

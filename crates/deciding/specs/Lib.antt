@@ -1,4 +1,5 @@
 pub mod Decide
+pub mod Regions
 pub mod Distance
 pub mod Sizes
 pub mod Laws

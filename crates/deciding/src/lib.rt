@@ -14,12 +14,10 @@ use line::size;
 // A squared distance in units, 1024 to one level: no count of bits and none of unit intervals.
 pub struct SquaredUnits(pub u32);
 
-// What a point is decided as: a state, with the squared distance to its sent point. The origin is no state, and a mode 2 point may
-// lie in no sector.
+// What a point is decided as: a state, with the squared distance to its sent point. The origin is no state.
 pub enum Decision {
     State(u8, SquaredUnits),
     Origin,
-    NoSector,
 }
 
 // No sign and no size of a coordinate takes the code another way: it would be guessed wrong half of the time. A test becomes a

@@ -10,9 +10,8 @@ use lib.ListN.{length, getD}
 use lib.Seq.{sets}
 use Rattle.deciding.specs.declared.SquaredUnits.{SquaredUnits}
 use Rattle.line.specs.declared.Point.{Point}
-use Rattle.deciding.specs.Decide.{Region, State, Origin, NoSector, decide}
+use Rattle.deciding.specs.Decide.{Region, State, Origin, decide}
 use Rattle.deciding.specs.Distance.{measured, decision}
-use Rattle.deciding.proofs.SectorLaws.{never-no-sector}
 use Rattle.line.specs.Refusal.{orNext, accepted}
 use Rattle.receiver.specs.declared.Reference.{Reference}
 use Rattle.receiver.specs.declared.Reference.the-variants.{Nothing as none, State as some}
@@ -112,15 +111,14 @@ module _ (s : Receiver) where
   state-left none y d = (refl, λ b. refl)
   state-left (some x) y d = (refl, λ b. refl)
 
-  point-left : (p : Point) (d : Region) → (d ≡ NoSector → ⊥) → Left (pointOutcome s (measured (s .mode) p d)) (pointNext s d)
+  point-left : (p : Point) (d : Region) → Left (pointOutcome s (measured (s .mode) p d)) (pointNext s d)
   unfolding pointOutcome pointNext
-  point-left p (State y) f = state-left (s .reference) y _
-  point-left p Origin f = (refl, λ b. refl)
-  point-left p NoSector f = absurd (f refl)
+  point-left p (State y) = state-left (s .reference) y _
+  point-left p Origin = (refl, λ b. refl)
 
   event-left : (e : Event) → Left (eventOutcome s e) (eventNext s e)
   unfolding eventOutcome eventNext decision
-  event-left (point p) = point-left p (decide (s .mode) p) (never-no-sector (s .mode) p)
+  event-left (point p) = point-left p (decide (s .mode) p)
   event-left (gap n) = (refl, λ b. refl)
 
   -- the number, the state's bytes and the answer's bytes of an outcome

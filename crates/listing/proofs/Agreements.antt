@@ -12,9 +12,8 @@ use Rattle.line.specs.Point.{isOrigin}
 use Rattle.line.proofs.RefusalLaws.{need-met, need-rest, next-rest, left-kept}
 use Rattle.line.proofs.TableLaws.{and-left, and-right, and-intro, every-append}
 use Rattle.line.proofs.Tests.{by-test}
-use Rattle.deciding.specs.Decide.{Region, State, Origin, NoSector, decide}
+use Rattle.deciding.specs.Decide.{Region, State, Origin, decide}
 use Rattle.deciding.proofs.DecideLaws.{Off, at-origin}
-use Rattle.deciding.proofs.SectorLaws.{never-no-sector}
 use Rattle.scrambler.specs.Scramble.{Datum, unsettled, settled}
 use Rattle.receiver.specs.declared.Reference.{Reference}
 use Rattle.receiver.specs.declared.Reference.the-variants.{Nothing as none, State as some}
@@ -117,11 +116,10 @@ unfolding stateAnswer
 state-says s none y d = says-reference (s .place .0) d
 state-says s (some x) y d = says-bits (s .place .0) _ _ d
 
-point-says : (s : Receiver) (p : Point) (d : Region) → decide (s .mode) p ≡ d → Off (s .mode) d → Says (cut 32 (row (s .place .0) (pointAnswer s p d))) 1 0 0
+point-says : (s : Receiver) (p : Point) (d : Region) → Off (s .mode) d → Says (cut 32 (row (s .place .0) (pointAnswer s p d))) 1 0 0
 unfolding pointAnswer
-point-says s p (State y) e h = state-says s (s .reference) y _
-point-says s p Origin e h = absurd h
-point-says s p NoSector e h = absurd (never-no-sector (s .mode) p e)
+point-says s p (State y) h = state-says s (s .reference) y _
+point-says s p Origin h = absurd h
 
 gap-room : (s : Receiver) (n : ℕ) → eventRefused s (gap n) ≡ 0 → n ≤ 4294967295
 unfolding eventRefused eventNeeds hasRoom
@@ -135,7 +133,7 @@ unfolding eventAnswer pointAnswer
 event-says s (point p) a =
     by-test (isOrigin p)
     (λ e. rw (e, at-origin (s .mode) p e) (says-lost (s .place .0) 1 (omega arith)))
-    (λ e. rw e (point-says s p (decide (s .mode) p) refl (accepted-off s p a e)))
+    (λ e. rw e (point-says s p (decide (s .mode) p) (accepted-off s p a e)))
 event-says s (lost n) a = says-lost (s .place .0) n (gap-room s n a)
 
 -- ---- the lines of events

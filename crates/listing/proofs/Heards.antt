@@ -1,4 +1,4 @@
--- No event of an accepted store is refused: its points are in range and in a sector, its lost counts at least 1, and their sum is the
+-- No event of an accepted store is refused: its points are in range, its lost counts at least 1, and their sum is the
 -- total, which four bytes hold. Assumes nothing.
 use mathlib.Core.Path.{_≡_, refl, sym, ap, _∙_, subst}
 use mathlib.Core.Bool.{true, false, _&&_}
@@ -11,16 +11,15 @@ use lib.ListN.{getD, drop}
 use Rattle.line.specs.Table.{All}
 use Rattle.line.specs.Mode.{isMode, isRole}
 use Rattle.line.specs.Point.{inRange}
-use Rattle.deciding.specs.Decide.{decide}
 use Rattle.line.specs.Refusal.{orNext}
 use Rattle.line.proofs.RefusalLaws.{need-intro}
 use Rattle.octets.specs.Number.{u32, zeros}
 use Rattle.line.proofs.Tests.{by-test, and-split}
 use Rattle.receiver.specs.declared.Receiver.{Receiver}
-use Rattle.receiver.specs.Receiver.{freshReceiver, isFresh, fieldsOk, inSector, hasRoom, intervals, next}
+use Rattle.receiver.specs.Receiver.{freshReceiver, isFresh, fieldsOk, hasRoom, intervals, next}
 use Rattle.receiver.specs.Receiver.{refusal as eventRefused, eventRefusal as eventNeeds}
 use Rattle.receiver.specs.Calls.{EachAccepted}
-use Rattle.receiver.proofs.OutcomeLaws.{in-a-sector, accepted-placed}
+use Rattle.receiver.proofs.OutcomeLaws.{accepted-placed}
 use Rattle.receiver.proofs.CallLaws.{Valid, no-refusal, next-valid}
 use Rattle.store.specs.Chain.{gather, sumOver}
 use Rattle.store.specs.Layout.{Event, point, lost, rec, held, isPoints, pointAt, points, pointsOk, kind, recordOk, eventsOf}
@@ -67,8 +66,7 @@ chain-fine f (i ∷ c) a = fine-append (eventsOf (f i)) _ (record-fine (f i) (a 
 needs-met : (s : Receiver) (e : Event) → Fine e → s .place .0 + intervals (taken e) ≤ 4294967295 → eventNeeds s (taken e) ≡ 0
 unfolding eventNeeds hasRoom
 needs-met s (point p) f h =
-    need-intro (inRange p) 8 _ f
-    (need-intro (inSector (decide (s .mode) p)) 10 _ (in-a-sector (s .mode) p) (need-intro (hasRoom s 1) 16 0 (le→leb _ _ h) refl))
+    need-intro (inRange p) 8 _ f (need-intro (hasRoom s 1) 16 0 (le→leb _ _ h) refl)
 needs-met s (lost n) f h = need-intro (leb 1 n) 9 _ (le→leb 1 n f) (need-intro (hasRoom s n) 16 0 (le→leb _ _ h) refl)
 
 taken-span : (e : Event) → intervals (taken e) ≡ intervalsIn e

@@ -9,7 +9,7 @@ use lib.Dec.{leb}
 use lib.ListN.{length, getD, drop, length-append, length-map}
 use Rattle.line.specs.Mode.{isMode, isRole, byMode, width, face}
 use Rattle.line.specs.declared.Point.{Point}
-use Rattle.deciding.specs.Decide.{Region, State, Origin, NoSector, decide}
+use Rattle.deciding.specs.Decide.{Region, State, Origin, decide}
 use Rattle.deciding.specs.Distance.{distance}
 use Rattle.coding.specs.Code.{group}
 use Rattle.line.specs.Refusal.{accepted}
@@ -61,7 +61,6 @@ decision-long : (s : Receiver) (p : Point) (d : Region) → length (kindText (po
 unfolding pointAnswer kindText decimal
 decision-long s p (State y) = state-long s (s .reference) y (distance (s .mode) y p)
 decision-long s p Origin = omega arith
-decision-long s p NoSector = omega arith
 
 -- of any event whose kind takes at most b bytes
 line-long : (s : Receiver) (e : Call) (b : ℕ) → length (kindText (eventAnswer s e)) ≤ b → length (lineText (s .place .0) (answer s e)) ≤ 11 + b

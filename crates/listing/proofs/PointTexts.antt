@@ -5,7 +5,6 @@ use Prim.Native.Nat.{ℕ, zero, suc, _+_, _*_, _-_, _^_, _/_, _%_, _≤_, _<_}
 use native.Mathlib.Omega.{arith}
 use native.Mathlib.Nat.{add-zero}
 use borrow.Author.Tests.{ne-eqb, eq-eqb, le-leb}
-use lib.Dec.{T}
 use lib.IntN.{ℤ}
 use lib.ListN.{length, getD, set, take, drop, drop-of-length-le, length-map}
 use lib.Pow.{pow-mono}
@@ -19,7 +18,7 @@ use Rattle.line.proofs.PointLaws.{pairs-length}
 use Rattle.octets.specs.Number.{u16, i16, signed}
 use Rattle.octets.proofs.Numbers.{u16-drop}
 use Rattle.line.proofs.Sets.{sets-whole}
-use Rattle.deciding.specs.Decide.{Region, State, Origin, NoSector, decide}
+use Rattle.deciding.specs.Decide.{Region, State, Origin, decide}
 use Rattle.deciding.specs.Distance.{distance}
 use Rattle.coding.specs.Code.{group}
 use Rattle.scrambler.specs.Scramble.{Datum}
@@ -30,10 +29,10 @@ use Rattle.scrambler.proofs.GroupLaws.{group-read, descrambled-small}
 use Rattle.receiver.specs.declared.Reference.{Reference}
 use Rattle.receiver.specs.declared.Reference.the-variants.{Nothing as none, State as some}
 use Rattle.receiver.specs.declared.Receiver.{Receiver}
-use Rattle.receiver.specs.Receiver.{Answer, decoded, stateRefusal, inSector, stateAnswer, pointAnswer, eventAnswer, answer, next}
+use Rattle.receiver.specs.Receiver.{Answer, decoded, stateRefusal, stateAnswer, pointAnswer, eventAnswer, answer, next}
 use Rattle.receiver.specs.Receiver.{Event as Call, point, refused, refusal}
 use Rattle.receiver.specs.Calls.{after, EachAccepted, Heard, answers}
-use Rattle.receiver.proofs.OutcomeLaws.{in-a-sector, accepted-placed}
+use Rattle.receiver.proofs.OutcomeLaws.{accepted-placed}
 use Rattle.receiver.proofs.CallLaws.{no-refusal, accepted-valid, same-next, heard-accepted, heard-all}
 use Rattle.bulk.specs.declared.Block.{Block}
 use Rattle.bulk.specs.declared.Block.the-variants.{Refused as NotTaken, Taken}
@@ -120,16 +119,15 @@ module _ (s : Receiver) where
       (ap₂ (λ (i j : ℕ). marked i (bits w j)) (let q : (16 * d .unsettled .0 + d .plain) / 16 ≡ d .unsettled .0 = omega arith in q)
       (let q : (16 * d .unsettled .0 + d .plain) % 16 ≡ d .plain = omega arith in q) ∙ group-read (s .mode) (s .role) (s .line) g))
 
-  point-says : (p : Point) (d : Region) → T (inSector d) → Says (pointAnswer s p d)
+  point-says : (p : Point) (d : Region) → Says (pointAnswer s p d)
   unfolding byteAnswer pointAnswer
-  point-says p (State y) t = state-says (s .reference) y (distance (s .mode) y p)
-  point-says p Origin t = refl
-  point-says p NoSector t = absurd t
+  point-says p (State y) = state-says (s .reference) y (distance (s .mode) y p)
+  point-says p Origin = refl
 
   byte-answer : (p : Point) → refusal s (point p) ≡ 0 → Says (answer s (point p))
   unfolding answer eventAnswer
   byte-answer p z =
-      subst Says (ap (λ (n : ℕ). accepted n (pointAnswer s p (decide (s .mode) p)) (refused n)) (sym z)) (point-says p (decide (s .mode) p) (in-a-sector (s .mode) p))
+      subst Says (ap (λ (n : ℕ). accepted n (pointAnswer s p (decide (s .mode) p)) (refused n)) (sym z)) (point-says p (decide (s .mode) p))
 
 bytes-lines : (s : Receiver) (ps : List Point) → EachAccepted s (map point ps)
     → byteLines (width (s .mode)) (s .place .0) (map lineByte (answersTo s ps)) (map plainByte (answersTo s ps)) ≡ lines s (map point ps)

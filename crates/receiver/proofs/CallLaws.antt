@@ -10,7 +10,7 @@ use lib.Pow.{pow-pos}
 use Rattle.line.specs.declared.Point.{Point}
 use Rattle.line.specs.Mode.{isMode, isRole, isState, width, face}
 use Rattle.line.specs.Point.{isOrigin}
-use Rattle.deciding.specs.Decide.{Region, State, Origin, NoSector, decide}
+use Rattle.deciding.specs.Decide.{Region, State, Origin, decide}
 use Rattle.coding.specs.Code.{group}
 use Rattle.line.specs.Refusal.{accepted}
 use Rattle.line.proofs.RefusalLaws.{next-first, state-met, state-free}
@@ -28,7 +28,6 @@ use Rattle.receiver.specs.Calls.{after, EachAccepted, Heard, heard, even
 use Rattle.receiver.specs.Laws.{StatesPass, GapForgets, EachMeasured, PlaceAfter}
 use Rattle.deciding.specs.Distance.{distance}
 use Rattle.deciding.proofs.DecideLaws.{Off, at-origin, decide-off}
-use Rattle.deciding.proofs.SectorLaws.{never-no-sector}
 use Rattle.receiver.proofs.OutcomeLaws.{next-placed}
 
 -- NUMBERS 1, 2 AND 4
@@ -89,7 +88,6 @@ module _ (s : Receiver) (v : Valid s) where
   unfolding pointNext
   point-valid (State y) h = state-valid y h
   point-valid Origin h = absurd h
-  point-valid NoSector h = v
 
   origin-valid : (p : Point) (b : Bool) → isOrigin p ≡ b → Valid (pointNext s (decide (s .mode) p))
   unfolding pointNext decide
@@ -134,7 +132,6 @@ gap-forgets s e n q = go (refusal s e) q
     of-point : (q : Point) (d : Region) → pointAnswer s q d ≡ lost n → (pointNext s d .reference ≡ none) × (pointNext s d .line ≡ fresh)
     of-point q (State y) p = absurd (of-state (s .reference) y (distance (s .mode) y q) p)
     of-point q Origin p = (refl, refl)
-    of-point q NoSector p = let z : _≡_ {A = ℕ} 0 1 = cc in absurd (omega arith)
 
     of-event : (e : Event) → eventAnswer s e ≡ lost n → (eventNext s e .reference ≡ none) × (eventNext s e .line ≡ fresh)
     of-event (point p) a = of-point p (decide (s .mode) p) a
@@ -163,7 +160,6 @@ module _ (s : Receiver) where
   unfolding pointAnswer
   of-region p (State y) v e = rw e (of-state (s .reference) y (distance (s .mode) y p))
   of-region p Origin v e = absurd v
-  of-region p NoSector v e = absurd (never-no-sector (s .mode) p e)
 
 pub each-measured : EachMeasured
 unfolding answer eventAnswer pointAnswer
@@ -221,7 +217,6 @@ same-next s e = go (refusal s e) e
     of-point : (d : Region) → Same s (pointNext s d)
     of-point (State y) = (refl, refl)
     of-point Origin = (refl, refl)
-    of-point NoSector = (refl, refl)
 
     go : (n : ℕ) (e : Event) → Same s (accepted n (eventNext s e) s)
     go zero (point p) = of-point (decide (s .mode) p)

@@ -7,16 +7,14 @@ use mathlib.Core.List.{List, [], _∷_}
 use native.Mathlib.Omega.{arith}
 use borrow.Author.Tests.{le-leb, lt-leb}
 use lib.IntN.{ℤ}
-use lib.Dec.{T, eqb}
+use lib.Dec.{eqb}
 use Rattle.line.specs.declared.Point.{Point}
 use Rattle.line.specs.Mode.{isState, width, capacity, face}
 use Rattle.line.specs.Point.{at, inRange}
-use Rattle.deciding.specs.Decide.{Region, State, Origin, NoSector, decide}
+use Rattle.deciding.specs.Decide.{Region, State, Origin, decide}
 use Rattle.coding.specs.Code.{group}
 use Rattle.line.specs.Refusal.{need, orNext, accepted}
 use Rattle.line.proofs.RefusalLaws.{or-some}
-use Rattle.line.proofs.TableLaws.{is-true}
-use Rattle.deciding.proofs.SectorLaws.{never-no-sector}
 use Rattle.scrambler.specs.declared.Register.{Register}
 use Rattle.scrambler.specs.declared.Descrambled.{Descrambled}
 use Rattle.scrambler.specs.Register.{register, fresh, registerOk}
@@ -25,7 +23,7 @@ use Rattle.scrambler.specs.Group.{descrambled}
 use Rattle.scrambler.proofs.GroupLaws.{group-read}
 use Rattle.deciding.specs.declared.SquaredUnits.{SquaredUnits}
 use Rattle.deciding.specs.declared.Decision.{Decision}
-use Rattle.deciding.specs.declared.Decision.the-variants.{State as DecidedAs, Origin as AtOrigin, NoSector as InNoSector}
+use Rattle.deciding.specs.declared.Decision.the-variants.{State as DecidedAs, Origin as AtOrigin}
 use Rattle.deciding.specs.Distance.{measured, decision}
 use Rattle.receiver.specs.declared.Reference.{Reference}
 use Rattle.receiver.specs.declared.Reference.the-variants.{Nothing as none, State as some}
@@ -35,26 +33,8 @@ use Rattle.receiver.specs.declared.Outcome.the-variants.{Refused, Refere
 use Rattle.receiver.specs.declared.Started.{Started}
 use Rattle.receiver.specs.declared.Started.the-variants.{Refused as NotStarted, Ready}
 use Rattle.line.specs.Refusal.{modeRefusal}
-use Rattle.receiver.specs.Receiver.{receiver, freshReceiver, Event, point, gap, isFresh, fieldsOk, stateRefusal, inSector, hasRoom, eventRefusal, refusal, refused, decoded, lineBits, stateAnswer, pointAnswer, eventAnswer, answer, intervals, placeAfter, forgotten, stateLine, stateNext, pointNext, eventNext, next}
+use Rattle.receiver.specs.Receiver.{receiver, freshReceiver, Event, point, gap, isFresh, fieldsOk, stateRefusal, hasRoom, eventRefusal, refusal, refused, decoded, lineBits, stateAnswer, pointAnswer, eventAnswer, answer, intervals, placeAfter, forgotten, stateLine, stateNext, pointNext, eventNext, next}
 use Rattle.receiver.specs.Outcome.{answerOf, stateOf, Told, groupOf, stateOutcome, gapOutcome, pointOutcome, eventOutcome, outcome, ifRoom, Made, started}
-
--- number 10 has no point that meets it
-pub in-a-sector : (m : ℕ) (p : Point) → T (inSector (decide m p))
-in-a-sector m p = go (decide m p) refl
-  where
-    go : (d : Region) → decide m p ≡ d → T (inSector d)
-    go (State y) e = tt
-    go Origin e = tt
-    go NoSector e = absurd (never-no-sector m p e)
-
-never-nowhere : (m : ℕ) (p : Point) → InNoSector ≡ decision m p → ⊥
-unfolding decision
-never-nowhere m p = go (decide m p) refl
-  where
-    go : (d : Region) → decide m p ≡ d → InNoSector ≡ measured m p d → ⊥
-    go (State y) e q = let z : _≡_ {A = ℕ} 0 1 = cc in omega arith
-    go Origin e q = let z : _≡_ {A = ℕ} 0 1 = cc in omega arith
-    go NoSector e q = never-no-sector m p e
 
 -- WHAT AN OUTCOME SAYS
 
@@ -69,7 +49,6 @@ module _ (s : Receiver) where
   unfolding pointOutcome pointAnswer
   point-answered p (State y) = state-answered (s .reference) y _
   point-answered p Origin = refl
-  point-answered p NoSector = refl
 
   event-answered : (e : Event) → answerOf (width (s .mode)) (eventOutcome s e) ≡ eventAnswer s e
   unfolding eventOutcome eventAnswer decision
@@ -85,22 +64,20 @@ module _ (s : Receiver) where
   unfolding pointOutcome pointNext
   point-left p (State y) = state-left (s .reference) y _
   point-left p Origin = refl
-  point-left p NoSector = refl
 
   event-left : (e : Event) → stateOf s (eventOutcome s e) ≡ eventNext s e
   unfolding eventOutcome eventNext decision
   event-left (point p) = point-left p (decide (s .mode) p)
   event-left (gap n) = refl
 
-  point-placed : (d : Region) → T (inSector d) → pointNext s d .place .0 ≡ s .place .0 + 1
+  point-placed : (d : Region) → pointNext s d .place .0 ≡ s .place .0 + 1
   unfolding pointNext stateNext forgotten
-  point-placed (State y) t = refl
-  point-placed Origin t = refl
-  point-placed NoSector t = absurd t
+  point-placed (State y) = refl
+  point-placed Origin = refl
 
   event-placed : (e : Event) → eventNext s e .place .0 ≡ s .place .0 + intervals e
   unfolding eventNext forgotten
-  event-placed (point p) = point-placed (decide (s .mode) p) (in-a-sector (s .mode) p)
+  event-placed (point p) = point-placed (decide (s .mode) p)
   event-placed (gap n) = refl
 
   answered : (e : Event) (n : ℕ) → answerOf (width (s .mode)) (accepted n (eventOutcome s e) (Refused n)) ≡ accepted n (eventAnswer s e) (refused n)
@@ -221,7 +198,7 @@ module _ (s : Receiver) (f : ℕ) (a : f ≡ stateRefusal s) where
       module _ (h : i ≡ true) (d : Decision) (q : d ≡ decision (s .mode) (at re′ im′)) where
         point-in : ifRoom s 1 (pointOutcome s d) ≡ outcome s (point (at re im))
         unfolding outcome refusal eventRefusal eventOutcome ifRoom
-        point-in = rw (← a, z, ← x, ← y, ← b, h, ← q, is-true (inSector (decide (s .mode) (at re′ im′))) (in-a-sector (s .mode) (at re′ im′))) (last-room (hasRoom s 1) (pointOutcome s d))
+        point-in = rw (← a, z, ← x, ← y, ← b, h, ← q) (last-room (hasRoom s 1) (pointOutcome s d))
 
         point-as : (c : Decision) (r : Outcome) → d ≡ c → r ≡ ifRoom s 1 (pointOutcome s c) → r ≡ outcome s (point (at re im))
         point-as c r is e = e ∙ ap (λ (u : Decision). ifRoom s 1 (pointOutcome s u)) (sym is) ∙ point-in
@@ -233,10 +210,6 @@ module _ (s : Receiver) (f : ℕ) (a : f ≡ stateRefusal s) where
         pub point-origin : (r : Outcome) → d ≡ AtOrigin → r ≡ ifRoom s 1 (gapOutcome s 1) → r ≡ outcome s (point (at re im))
         unfolding pointOutcome
         point-origin r is e = point-as AtOrigin r is e
-
-        -- no point is one
-        pub point-nowhere : d ≡ InNoSector → Refused 10 ≡ outcome s (point (at re im))
-        point-nowhere is = absurd (never-nowhere (s .mode) (at re′ im′) (sym is ∙ q))
 
 -- A FRESH RECEIVER
 

@@ -10,7 +10,7 @@ use Rattle.line.specs.Table.{every}
 use Rattle.line.specs.declared.Point.{Point}
 use Rattle.line.specs.Mode.{isMode, isState, width, face}
 use Rattle.line.specs.Point.{isOrigin}
-use Rattle.deciding.specs.Decide.{Region, State, Origin, NoSector, decide}
+use Rattle.deciding.specs.Decide.{Region, State, Origin, decide}
 use Rattle.deciding.specs.Distance.{distance}
 use Rattle.line.specs.Refusal.{accepted}
 use Rattle.line.proofs.TableLaws.{and-intro}
@@ -22,12 +22,11 @@ use Rattle.scrambler.proofs.GroupLaws.{descramble-append, length-descramble}
 use Rattle.scrambler.proofs.RegisterLaws.{Ok}
 use Rattle.receiver.specs.declared.Reference.the-variants.{State as some}
 use Rattle.receiver.specs.declared.Receiver.{Receiver}
-use Rattle.receiver.specs.Receiver.{receiver, Event, point, gap, inSector, refusal, refused, decoded, lineBits, stateAnswer, pointAnswer, eventAnswer, answer, stateLine, stateNext, pointNext, eventNext, next}
+use Rattle.receiver.specs.Receiver.{receiver, Event, point, gap, refusal, refused, decoded, lineBits, stateAnswer, pointAnswer, eventAnswer, answer, stateLine, stateNext, pointNext, eventNext, next}
 use Rattle.line.specs.Table.{All}
 use Rattle.receiver.specs.Calls.{Heard, heard, IsPoint, decidedAs, dataOf, decidedStates, linesHeard, row, dataHeard}
 use Rattle.receiver.specs.Turn.{lines}
 use Rattle.deciding.proofs.DecideLaws.{Off}
-use Rattle.receiver.proofs.OutcomeLaws.{in-a-sector}
 use Rattle.receiver.proofs.CallLaws.{Valid, accepted-valid, accepted-off, line-register}
 
 -- the state that an accepted point off the origin is decided as
@@ -37,16 +36,15 @@ pub record Decided (m : ℕ) (p : Point) : Type 0 where
   pub of-mode : T (isState m state)
 
 pub decided : (s : Receiver) (p : Point) → refusal s (point p) ≡ 0 → T (not (isOrigin p)) → Decided (s .mode) p
-decided s p z t = go (decide (s .mode) p) refl (accepted-off s p z (not-so (isOrigin p) t)) (in-a-sector (s .mode) p)
+decided s p z t = go (decide (s .mode) p) refl (accepted-off s p z (not-so (isOrigin p) t))
   where
     not-so : (b : Bool) → T (not b) → b ≡ false
     not-so true t = absurd t
     not-so false t = refl
 
-    go : (d : Region) → decide (s .mode) p ≡ d → Off (s .mode) d → T (inSector d) → Decided (s .mode) p
-    go (State y) e h i = record { state = y; is = e; of-mode = h }
-    go Origin e h i = absurd h
-    go NoSector e h i = absurd i
+    go : (d : Region) → decide (s .mode) p ≡ d → Off (s .mode) d → Decided (s .mode) p
+    go (State y) e h = record { state = y; is = e; of-mode = h }
+    go Origin e h = absurd h
 
 -- what points heard after a reference x, with the register h, say
 pub record Follows (m role x : ℕ) (h : Register) (xs : List Heard) : Type 0 where

@@ -6,7 +6,7 @@ use mathlib.Core.Bool.{cond}
 use mathlib.Core.List.{List, [], _∷_}
 use Rattle.deciding.specs.declared.SquaredUnits.{SquaredUnits}
 use Rattle.deciding.specs.declared.Decision.{Decision}
-use Rattle.deciding.specs.declared.Decision.the-variants.{State as DecidedAs, Origin as AtOrigin, NoSector as InNoSector}
+use Rattle.deciding.specs.declared.Decision.the-variants.{State as DecidedAs, Origin as AtOrigin}
 use Rattle.line.specs.Mode.{width, face}
 use Rattle.deciding.specs.Distance.{decision}
 use Rattle.coding.specs.Code.{group}
@@ -72,7 +72,6 @@ gapOutcome s n = Gap (record { 0 = n }) (forgotten s n)
 unfoldable pub pointOutcome : Receiver → Decision → Outcome
 pointOutcome s (DecidedAs y d) = stateOutcome s (s .reference) y d
 pointOutcome s AtOrigin = gapOutcome s 1
-pointOutcome s InNoSector = Refused 10
 
 unfoldable pub eventOutcome : Receiver → Event → Outcome
 eventOutcome s (point p) = pointOutcome s (decision (s .mode) p)

@@ -1,13 +1,13 @@
 -- Document 01, "Receiver" and "Refusals", and document 02, R-1: a receiver's events, what it refuses, and the answer, place and state
 -- after an event.
 use Prim.Native.Nat.{ℕ, _+_}
-use mathlib.Core.Bool.{Bool, true, false, _&&_}
+use mathlib.Core.Bool.{Bool, _&&_}
 use mathlib.Core.List.{List}
 use lib.Dec.{eqb, leb}
 use Rattle.line.specs.declared.Point.{Point}
 use Rattle.line.specs.Mode.{isState, width, face}
 use Rattle.line.specs.Point.{inRange}
-use Rattle.deciding.specs.Decide.{Region, State, Origin, NoSector, decide}
+use Rattle.deciding.specs.Decide.{Region, State, Origin, decide}
 use Rattle.deciding.specs.Distance.{distance}
 use Rattle.coding.specs.Code.{group}
 use Rattle.line.specs.Refusal.{need, orNext, accepted, modeRefusal}
@@ -46,18 +46,12 @@ fieldsOk m (some x) h = isState m x && registerOk m h
 unfoldable pub stateRefusal : Receiver → ℕ
 stateRefusal s = orNext (modeRefusal (s .mode) (s .role)) (need (fieldsOk (s .mode) (s .reference) (s .line)) 4 0)
 
--- number 10: off the origin, and in none of the eight sectors
-abbrev pub inSector : Region → Bool
-inSector (State y) = true
-inSector Origin = true
-inSector NoSector = false
-
 -- number 16: the place n intervals on
 unfoldable pub hasRoom : Receiver → ℕ → Bool
 hasRoom s n = leb (s .place .0 + n) 4294967295
 
 unfoldable pub eventRefusal : Receiver → Event → ℕ
-eventRefusal s (point p) = need (inRange p) 8 (need (inSector (decide (s .mode) p)) 10 (need (hasRoom s 1) 16 0))
+eventRefusal s (point p) = need (inRange p) 8 (need (hasRoom s 1) 16 0)
 eventRefusal s (gap n) = need (leb 1 n) 9 (need (hasRoom s n) 16 0)
 
 unfoldable pub refusal : Receiver → Event → ℕ
@@ -83,11 +77,10 @@ unfoldable pub stateAnswer : Receiver → Reference → ℕ → ℕ → Answer
 stateAnswer s none y d = reference d
 stateAnswer s (some x) y d = decoded (lineBits (s .mode) x y) (descramble (s .mode) (s .role) (s .line) (lineBits (s .mode) x y)) d
 
--- the origin is a gap of one interval; a point in no sector never comes here, since number 10 refuses it
+-- the origin is a gap of one interval
 unfoldable pub pointAnswer : Receiver → Point → Region → Answer
 pointAnswer s p (State y) = stateAnswer s (s .reference) y (distance (s .mode) y p)
 pointAnswer s p Origin = lost 1
-pointAnswer s p NoSector = refused 10
 
 unfoldable pub eventAnswer : Receiver → Event → Answer
 eventAnswer s (point p) = pointAnswer s p (decide (s .mode) p)
@@ -124,7 +117,6 @@ stateNext s o y = receiver (s .mode) (s .role) (some y) (stateLine s o y) (s .pl
 unfoldable pub pointNext : Receiver → Region → Receiver
 pointNext s (State y) = stateNext s (s .reference) y
 pointNext s Origin = forgotten s 1
-pointNext s NoSector = s
 
 unfoldable pub eventNext : Receiver → Event → Receiver
 eventNext s (point p) = pointNext s (decide (s .mode) p)

@@ -183,7 +183,6 @@ pub fn receive_point(s: Receiver, re: i16, im: i16) -> Outcome
         match decision {
             deciding::Decision::State(y, d) => take_state(s, y, d),
             deciding::Decision::Origin => lose(s, 1),
-            deciding::Decision::NoSector => Outcome::Refused(10),
         }
     } else {
         Outcome::Refused(8)

@@ -1,4 +1,4 @@
-use Rattle.receiver.proofs.OutcomeLaws.{both, outcome-fault, point-far, point-state, point-origin, point-nowhere}
+use Rattle.receiver.proofs.OutcomeLaws.{both, outcome-fault, point-far, point-state, point-origin}
 use borrow.Author.Needs.{needs}
 use Rattle.receiver.proofs.receive_point.Statement.{statement}
 use Rattle.receiver.proofs.receive_point.Tie as tie
@@ -27,9 +27,6 @@ enum-told c = search needs
 lose-requires : tie.Need-lose-requires
 lose-requires c κs = search needs
 
-enum-told-2 : tie.Need-enum-told-2
-enum-told-2 c = search needs
-
 returns-2 : tie.Need-returns-2
 returns-2 c = both _ _ _ (search (point-state, needs))
 
@@ -37,10 +34,7 @@ returns-3 : tie.Need-returns-3
 returns-3 c = both _ _ _ (search (point-origin, needs))
 
 returns-4 : tie.Need-returns-4
-returns-4 c = both _ _ _ (search (point-nowhere, needs))
-
-returns-5 : tie.Need-returns-5
-returns-5 c = both _ _ _ (search (point-far, needs))
+returns-4 c = both _ _ _ (search (point-far, needs))
 
 pub receive-point-spec : {M : Type 1} → statement M
 receive-point-spec =
@@ -54,8 +48,6 @@ receive-point-spec =
     take-state-requires
     enum-told
     lose-requires
-    enum-told-2
     returns-2
     returns-3
-    returns-4
-    returns-5)
+    returns-4)

@@ -1,0 +1,42 @@
+-- Document 01, "Deciding a point", and document 02, R-5: where the state of a point is sought, by the inequalities alone and not by
+-- what it is decided as. That each point off the origin lies in one state's region and no other's is `InOneRegion` of specs/Laws.
+use Prim.Native.Nat.{ℕ, _+_, _*_, _-_, _/_, _%_}
+use mathlib.Core.Bool.{Bool, _&&_, cond}
+use mathlib.Core.List.{[], _∷_}
+use lib.Dec.{eqb}
+use lib.IntN.{ℤ, pos, _+ℤ_, _-ℤ_, _*ℤ_}
+use lib.ListN.{getD}
+use lib.Signed.{ltZ, leZ}
+use Rattle.line.specs.declared.Point.{Point}
+use Rattle.line.specs.Mode.{byMode, quadrant}
+use Rattle.line.specs.Point.{turnedBy}
+use Rattle.deciding.specs.Decide.{square, inFirst, outer}
+
+-- Mode 2, about state 0: within 22.5° of 0° on either side, nearer than 45° above it and than 45° below. A point on an edge is not in.
+unfoldable pub about0 : Point → Bool
+about0 z =
+    let x : ℤ = pos 2 *ℤ square (z .re) in
+    ltZ (pos 0) (z .re) && (ltZ (square (z .re +ℤ z .im)) x && ltZ (square (z .re -ℤ z .im)) x)
+
+-- about state 1: within 22.5° of 45° on either side, nearer than 0° and than 90°, again without the edges
+unfoldable pub about45 : Point → Bool
+about45 z =
+    let s : ℤ = square (z .re +ℤ z .im) in
+    (leZ (pos 0) (z .im) && ltZ (pos 0) (z .re)) && (ltZ (pos 2 *ℤ square (z .re)) s && ltZ (pos 2 *ℤ square (z .im)) s)
+
+-- the eight sectors: those of the states 0 and 1, and their turns of 90°
+unfoldable pub inSector : ℕ → Point → Bool
+inSector k z = let p : Point = turnedBy ((4 - k / 2) % 4) z in cond (eqb (k % 2) 0) (about0 p) (about45 p)
+
+-- how many turns of 90° lead from the first region to a state: from 0° in modes 1 and 2, from quadrant I, whose Y1 Y2 is 11, in 3 and 4
+unfoldable pub quartersTo : ℕ → ℕ → ℕ
+quartersTo m s =
+    let quadrants : ℕ = getD (2 ∷ 3 ∷ 1 ∷ 0 ∷ []) (quadrant s) 0 in
+    byMode m (s / 2) (s / 2) quadrants quadrants
+
+-- The region of a state: the turn of the first one that leads to it. Modes 1 and 3: more than -45° and at most +45° from the state.
+-- Mode 2: its sector. Mode 4: its quadrant, where, turned back to I, Q4 says that re is of level 3, and Q3 that im is.
+unfoldable pub inRegion : ℕ → ℕ → Point → Bool
+inRegion m s z =
+    let p : Point = turnedBy ((4 - quartersTo m s) % 4) z in
+    byMode m (inFirst 1 p) (inSector s z) (inFirst 3 p) (inFirst 4 p && eqb (outer (p .re) + 2 * outer (p .im)) (s % 4))
