@@ -135,8 +135,6 @@ pub enum Decision {
     /// is not always the nearest one: its edges are directions, and odd states
     /// are sent a little nearer the origin.
     State { state: u8, distance: SquaredUnits },
-    /// A mode 2 point off the origin in none of the eight sectors.
-    NoSector,
 }
 
 /// Decides any pair of numbers, in range or not.
@@ -158,9 +156,7 @@ pub fn decide(mode: &Mode, re: i16, im: i16) -> Decision {
     let in_first = |re, im| usize::from(in_first_region(mode, re, im));
     let quarters = in_first(im, -re) + 2 * in_first(-re, -im) + 3 * in_first(-im, re);
     let (re, im) = [(re, im), (im, -re), (-re, -im), (-im, re)][quarters % 4];
-    let Some(state) = state_in_first_region(mode, re, im) else {
-        return Decision::NoSector;
-    };
+    let state = state_in_first_region(mode, re, im);
     let state = turn_state_by_quarters(mode, state, quarters);
     let distance = distance(mode, state, received);
     Decision::State { state, distance }
@@ -182,28 +178,51 @@ fn in_first_region(mode: &Mode, re: i64, im: i64) -> bool {
     }
 }
 
-/// The state of a point in the first region, if it is in a sector.
-fn state_in_first_region(mode: &Mode, re: i64, im: i64) -> Option<u8> {
+/// The state of a point in the first region.
+fn state_in_first_region(mode: &Mode, re: i64, im: i64) -> u8 {
     match (mode.line, mode.width) {
-        (Line::V27ter, 2) => Some(0),
+        (Line::V27ter, 2) => 0,
         (Line::V27ter, _) => eighth(re, im),
-        (Line::V32, 2) => Some(C),
+        (Line::V32, 2) => C,
         // Level 3 from 2048 on: 1100 (1, 1), 1101 (3, 1), 1110 (1, 3), 1111 (3, 3).
-        (Line::V32, _) => Some(0b1100 + 2 * u8::from(im >= 2048) + u8::from(re >= 2048)),
+        (Line::V32, _) => 0b1100 + 2 * u8::from(im >= 2048) + u8::from(re >= 2048),
     }
 }
 
-/// The mode 2 state within 22.5° of a point with re > 0 and im ≥ 0. All tests
-/// are strict, so that a point on an edge is in no sector.
-fn eighth(re: i64, im: i64) -> Option<u8> {
+/// The mode 2 state within 22.5° of a point with re > 0 and im ≥ 0.
+fn eighth(re: i64, im: i64) -> u8 {
     let square = (re + im) * (re + im);
     if square < 2 * re * re {
-        Some(0)
+        0
     } else if square < 2 * im * im {
-        Some(2)
-    } else if square > 2 * re * re && square > 2 * im * im {
-        Some(1)
+        2
     } else {
-        None
+        1
     }
+}
+
+/// The directions of the eight mode 2 states, 0° to 315°.
+const DIRECTIONS: [(i64, i64); 8] = [
+    (1, 0),
+    (1, 1),
+    (0, 1),
+    (-1, 1),
+    (-1, 0),
+    (-1, -1),
+    (0, -1),
+    (1, -1),
+];
+
+/// Whether a point lies in the sector of each mode 2 state (document 02, R-5):
+/// less than 22.5° from the state's direction, to either side. Deciding does not
+/// use this; it is what deciding is held against.
+pub fn sectors(re: i16, im: i16) -> [bool; 8] {
+    let (re, im) = (i64::from(re), i64::from(im));
+    DIRECTIONS.map(|(x, y)| {
+        let along = x * re + y * im;
+        let across = (x * im - y * re).abs();
+        // The tangent of 22.5° is the root of 2, less 1.
+        let both = along + across;
+        (along > 0) & (both * both < 2 * along * along)
+    })
 }

@@ -57,8 +57,8 @@ pub fn fresh(mode: u8, role: u8) -> Result<Receiver, Refusal> {
     })
 }
 
-/// Takes a point; the origin is a gap of one interval. Refuses by 1, 2, 4, 8,
-/// 10 and 16.
+/// Takes a point; the origin is a gap of one interval. Refuses by 1, 2, 4, 8 and
+/// 16.
 pub fn receive_point(state: Receiver, re: i16, im: i16) -> Result<(Answer, Receiver), Refusal> {
     let (mode, scrambler) = checked(&state)?;
     let point = Point { re, im };
@@ -131,8 +131,6 @@ fn take_point(
             distance,
         } => take_state(state, mode, scrambler, decided, distance),
         Decision::Origin => pass_gap(state, UnitIntervals(1)),
-        // No square is twice a square, so no whole numbers come here.
-        Decision::NoSector => Err(Refusal::NO_SECTOR),
     }
 }
 
@@ -178,8 +176,8 @@ pub const GAP_BYTE: u8 = 17;
 
 /// Takes points, re and im in turn, all or none. For each a byte of line bits,
 /// a byte of data bits with 16 times the count of unsettled ones added, and the
-/// distance, 0 for a point at the origin, are written. Refuses by 1, 2, 4, 7, 8,
-/// 10 and 16.
+/// distance, 0 for a point at the origin, are written. Refuses by 1, 2, 4, 7, 8
+/// and 16.
 pub fn receive_points(
     state: Receiver,
     points: &[i16],
@@ -205,8 +203,8 @@ pub fn receive_points(
 }
 
 /// Takes points in levels, re and im in turn, all or none, and writes what
-/// `receive_points` writes for them in units. Refuses by 1, 2, 4, 7, 18, 8, 10
-/// and 16: number 18 of any point goes before number 8 of any.
+/// `receive_points` writes for them in units. Refuses by 1, 2, 4, 7, 18, 8 and
+/// 16: number 18 of any point goes before number 8 of any.
 pub fn receive_level_points(
     state: Receiver,
     levels: &[f32],

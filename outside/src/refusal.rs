@@ -1,14 +1,14 @@
-//! Refusal numbers (document 01, "Refusals, by whose doing"; document 02, R-3).
+//! Refusal numbers (document 01, "Refusals, by whose doing"; document 02, R-3 and
+//!
 
 /// The number of a refused call.
 #[derive(Clone, Copy, PartialEq, Eq, Hash, Debug)]
 pub struct Refusal(pub u8);
 
 /// All numbers, those that go before others first. A number that a request adds
-/// stands where the request puts it: 18 after 7 and before 8.
-pub const ORDER: [u8; 18] = [
-    1, 2, 3, 4, 5, 6, 7, 18, 8, 9, 10, 11, 12, 13, 14, 15, 16, 17,
-];
+/// stands where the request puts it: 18 after 7 and before 8. Number 10 is not
+/// used any more, and none comes into its place.
+pub const ORDER: [u8; 17] = [1, 2, 3, 4, 5, 6, 7, 18, 8, 9, 11, 12, 13, 14, 15, 16, 17];
 
 impl Refusal {
     /// Mode not 1 to 4.
@@ -31,8 +31,6 @@ impl Refusal {
     pub const COORDINATE: Refusal = Refusal(8);
     /// A gap, or a lost count to append, of 0.
     pub const EMPTY_GAP: Refusal = Refusal(9);
-    /// A mode 2 point off the origin in none of the eight sectors.
-    pub const NO_SECTOR: Refusal = Refusal(10);
     /// Store size not 32 times an N from 2 to 2048.
     pub const STORE_SIZE: Refusal = Refusal(11);
     /// Record 0's four bytes, mode, role or a byte due to be zero.

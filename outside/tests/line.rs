@@ -2,7 +2,7 @@
 
 use outside::code;
 use outside::mode::{Line, Mode, MODES};
-use outside::point::{decide, sent, turn_state, Decision, Point};
+use outside::point::{decide, sectors, sent, turn_state, Decision, Point};
 use outside::rng::Rng;
 use outside::units::SquaredUnits;
 
@@ -105,6 +105,46 @@ fn phase_decisions_agree_with_angles() {
                 assert_eq!(decided, near);
             }
         }
+    }
+}
+
+/// The sectors that a point falls into.
+fn sectors_of(re: i16, im: i16) -> Vec<u8> {
+    let inside = sectors(re, im);
+    (0..8).filter(|&k| inside[usize::from(k)]).collect()
+}
+
+/// (re + im)² and 2·re² are one apart: nearer to 22.5° no point comes. The last
+/// of them within range is (13860, 5741).
+#[test]
+fn points_next_to_an_edge_fall_into_one_sector() {
+    let (mut re, mut im, mut sector) = (1, 0, 0);
+    while re <= 16384 {
+        assert_eq!((re + im) * (re + im) - 2 * re * re, 2 * sector - 1);
+        let (x, y, state) = (re as i16, im as i16, sector as u8);
+        assert_eq!(sectors_of(x, y), [state]);
+        assert_eq!(decided(&MODES[1], x, y).unwrap().0, state);
+        // On the other side of 45°.
+        assert_eq!(sectors_of(y, x), [2 - state]);
+        (re, im, sector) = (2 * re + im, re, 1 - sector);
+    }
+    assert_eq!((re, im), (33461, 13860));
+}
+
+#[test]
+fn the_origin_falls_into_no_sector() {
+    assert_eq!(sectors_of(0, 0), []);
+}
+
+/// Also out of range.
+#[test]
+fn mode_2_decides_by_the_only_sector() {
+    let mut rng = Rng::new(5);
+    for _ in 0..1_000_000 {
+        let number = rng.next_u64();
+        let (re, im) = (number as i16, (number >> 16) as i16);
+        let states = decided(&MODES[1], re, im).map(|(state, _)| state);
+        assert_eq!(sectors_of(re, im), Vec::from_iter(states));
     }
 }
 

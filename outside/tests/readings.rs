@@ -249,7 +249,11 @@ fn all_numbers_have_their_place() {
     assert_eq!(ORDER[6..9], [7, 18, 8]);
     let mut sorted = ORDER;
     sorted.sort();
-    assert!(sorted.iter().copied().eq(1..=18));
+    // 10 is not used any more.
+    assert!(sorted
+        .iter()
+        .copied()
+        .eq((1..=18).filter(|&number| number != 10)));
 }
 
 /// What a block call leaves: the next state or its number, and the lent parts.

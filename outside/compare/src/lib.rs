@@ -12,6 +12,7 @@ pub mod ours;
 pub mod points;
 pub mod readings;
 pub mod receiving;
+pub mod sectors;
 pub mod sending;
 pub mod signal;
 pub mod stores;

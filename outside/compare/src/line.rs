@@ -106,7 +106,6 @@ fn decide(tally: &mut Tally, signal: Signal, (re, im): (i16, i16)) {
         _ if !(Point { re, im }).in_range() => (8, before, unwritten),
         Decision::State { state, distance } => after(Answer::Reference { distance }, Some(state)),
         Decision::Origin => after(Answer::Gap(UnitIntervals(1)), None),
-        Decision::NoSector => (10, before, unwritten),
     };
     tally.check((number, state, answer) == right, || {
         let (mode, role) = (signal.mode.number, signal.role);

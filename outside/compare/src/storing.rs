@@ -233,6 +233,7 @@ fn run_appends(tally: &mut Tally, rng: &mut Rng) {
             16 => 17..=17,
             _ => continue,
         };
+        // 9 is of a lost count, and 10 is not used any more.
         for second in beside.filter(|number| ![9, 10].contains(number)) {
             run_append(tally, rng, &[second, first]);
         }

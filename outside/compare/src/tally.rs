@@ -2,8 +2,8 @@
 
 use outside::refusal::ORDER;
 
-/// The refusal numbers and 0, an accepted call.
-const NUMBERS: usize = 1 + ORDER.len();
+/// The largest refusal number, those below it and 0, an accepted call.
+const NUMBERS: usize = 19;
 /// Differences that are printed in full.
 const SHOWN: u64 = 5;
 
@@ -23,9 +23,11 @@ pub struct Tally {
 }
 
 impl Tally {
-    /// Counts a call by its number.
+    /// Counts a call by its number, which has to be one that is used.
     pub fn count(&mut self, number: u8) {
-        self.counts[usize::from(number)] += 1;
+        let used = number == 0 || rank(number).is_some();
+        self.check(used, || format!("{number} is no refusal number"));
+        self.counts[usize::from(number).min(NUMBERS - 1)] += 1;
     }
 
     /// The lowest number of a call's faults, by the order in which they count, is

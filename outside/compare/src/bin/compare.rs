@@ -1,16 +1,19 @@
-//! Compares the proved library with the outside implementation: line, receiver,
-//! bulk, readings, store, sender, listing, sums; image looks for a table that the
-//! library is not to have. All of them where none is named.
+//! Compares the proved library with the outside implementation: line, sectors,
+//! receiver, bulk, readings, store, sender, listing, sums; image looks for a table
+//! that the library is not to have. All of them where none is named.
 
 use std::process::ExitCode;
 
-use compare::{bulk, image, line, listing, readings, receiving, sending, storing, summing};
+use compare::{
+    bulk, image, line, listing, readings, receiving, sectors, sending, storing, summing,
+};
 
 /// What a name compares; whether there was no difference.
 type Part = (&'static str, fn() -> bool);
 
-const PARTS: [Part; 9] = [
+const PARTS: [Part; 10] = [
     ("line", line::compare),
+    ("sectors", sectors::compare),
     ("receiver", || receiving::compare(1_200_000)),
     ("bulk", || bulk::compare(100_000)),
     ("readings", || readings::compare(1_000_000)),

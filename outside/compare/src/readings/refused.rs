@@ -1,6 +1,5 @@
 //! Refused readings: every set of faults that a call can have at once. Number 9
-//! never stands beside 18, since a hole has no float, and neither does 10, since
-//! no point in whole numbers meets it.
+//! never stands beside 18, since a hole has no float.
 
 use std::collections::BTreeSet;
 
