@@ -1,5 +1,6 @@
--- Document 01, "Deciding a point", and document 02, R-5: where the state of a point is sought, by the inequalities alone and not by
--- what it is decided as. That each point off the origin lies in one state's region and no other's is `InOneRegion` of specs/Laws.
+-- Document 01, "Deciding a point", and document 02, R-5: the eight sectors of mode 2 and the regions of the other modes, by inequalities
+-- alone and not by what a point is decided as. That each point off the origin lies in just one, that of the state it is decided as, is
+-- `InOneSector` and `InOneRegion` of specs/Laws.
 use Prim.Native.Nat.{ℕ, _+_, _*_, _-_, _/_, _%_}
 use mathlib.Core.Bool.{Bool, _&&_, cond}
 use mathlib.Core.List.{[], _∷_}
@@ -12,19 +13,21 @@ use Rattle.line.specs.Mode.{byMode, quadrant}
 use Rattle.line.specs.Point.{turnedBy}
 use Rattle.deciding.specs.Decide.{square, inFirst, outer}
 
--- Mode 2, about state 0: within 22.5° of 0° on either side, nearer than 45° above it and than 45° below. A point on an edge is not in.
+-- Mode 2, sector 0, less than 22.5° from 0° to either side: re > 0, (re + im)² < 2·re², nearer than 45°, and (re - im)² < 2·re², nearer
+-- than -45°. On an edge the two are equal, so that it belongs to no sector.
 unfoldable pub about0 : Point → Bool
 about0 z =
     let x : ℤ = pos 2 *ℤ square (z .re) in
     ltZ (pos 0) (z .re) && (ltZ (square (z .re +ℤ z .im)) x && ltZ (square (z .re -ℤ z .im)) x)
 
--- about state 1: within 22.5° of 45° on either side, nearer than 0° and than 90°, again without the edges
+-- sector 1, less than 22.5° from 45° to either side: im ≥ 0, re > 0, and (re + im)² is above 2·re², nearer than 0°, and above 2·im²,
+-- nearer than 90°. Again no edge is in.
 unfoldable pub about45 : Point → Bool
 about45 z =
     let s : ℤ = square (z .re +ℤ z .im) in
     (leZ (pos 0) (z .im) && ltZ (pos 0) (z .re)) && (ltZ (pos 2 *ℤ square (z .re)) s && ltZ (pos 2 *ℤ square (z .im)) s)
 
--- the eight sectors: those of the states 0 and 1, and their turns of 90°
+-- sector k of the eight, about state k: 2, 4 and 6 are the turns of sector 0 by 90°, 180° and 270°, and 3, 5 and 7 those of sector 1
 unfoldable pub inSector : ℕ → Point → Bool
 inSector k z = let p : Point = turnedBy ((4 - k / 2) % 4) z in cond (eqb (k % 2) 0) (about0 p) (about45 p)
 

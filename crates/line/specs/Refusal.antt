@@ -1,4 +1,5 @@
 -- Document 01, "Refusals": "the lowest that applies is given, and only when its condition holds". A refusal is its number, 0 is none.
+-- Document 02, R-5: number 10, a mode 2 point in none of the eight sectors, is gone, since no point is one; "the number is not used again".
 use Prim.Native.Nat.{ℕ, zero, suc}
 use mathlib.Core.Bool.{Bool, true, false}
 use Rattle.line.specs.Mode.{isMode, isRole}
