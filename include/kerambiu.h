@@ -22,7 +22,7 @@
  *   18  a coordinate in levels, or a power, that is NaN or infinite
  *    8  a coordinate outside -16384 to 16384; one in levels after rounding
  *    9  a gap, a hole, or a lost count to append, of 0
- *   10  a mode 2 point off the origin in none of the eight sectors; no point in whole numbers is one
+ *   10  not used any more, and given to nothing else: every mode 2 point off the origin is in one of the eight sectors
  *   11  store size not 32 times an N from 2 to 2048
  *   12  record 0's four bytes, mode, role or a byte due to be zero
  *   13  an index of N or more, or met twice
@@ -105,7 +105,7 @@ uint8_t kerambiu_fresh(uint8_t *state, size_t state_len, uint8_t mode, uint8_t r
  * Takes a point; the origin is a gap of one interval.
  *    1, 2, 4  the state, if it has all its bytes
  *    7        fewer bytes than a state or an answer has
- *    8, 10    the point
+ *    8        the point
  *   16        the place after it
  */
 uint8_t kerambiu_receive_point(uint8_t *state, size_t state_len, int16_t re, int16_t im, uint8_t *answer, size_t answer_len);
@@ -124,7 +124,7 @@ uint8_t kerambiu_receive_gap(uint8_t *state, size_t state_len, uint32_t n, uint8
  *    1, 2, 4  the state, if it has all its bytes
  *    7        fewer bytes than a state or an answer has
  *   18        re or im, also where the other is out of range
- *    8, 10    the point, rounded
+ *    8        the point, rounded
  *   16        the place after it
  */
 uint8_t kerambiu_receive_levels(uint8_t *state, size_t state_len, float re, float im, uint8_t *answer, size_t answer_len);
@@ -160,7 +160,7 @@ uint8_t kerambiu_receive_hole(uint8_t *state, size_t state_len, uint32_t n, uint
  *    1, 2, 4  the state, if it has all its bytes
  *    7        fewer bytes than a state has; an odd count of numbers of points; in `line` or in `plain` fewer bytes than points;
  *             in `distance` fewer numbers than points
- *    8, 10    any of the points
+ *    8        any of the points
  *   16        the place after all of them
  */
 #define KERAMBIU_REFERENCE 16
@@ -176,7 +176,7 @@ uint8_t kerambiu_receive_points(uint8_t *state, size_t state_len, const int16_t 
  *    7        fewer bytes than a state has; an odd count of floats; in `line` or in `plain` fewer bytes than points; in
  *             `distance` fewer numbers than points
  *   18        any of the coordinates, also where one before it is out of range
- *    8, 10    any of the points, rounded
+ *    8        any of the points, rounded
  *   16        the place after all of them
  */
 uint8_t kerambiu_receive_level_points(uint8_t *state, size_t state_len, const float *levels, size_t levels_len, uint8_t *line,

@@ -147,9 +147,9 @@ module _ (m : ℕ) (hm : T (isMode m)) where
           (leb-true _ _ (is-true _ (and-right (coordinateIn (z .re)) (coordinateIn (z .im)) r))) o
 
 pub most-distance : MostDistance
-unfolding quadrant nextQuadrant step turn quarterSteps isOrigin sent27 sentPoint inFirst first turnedAnswer quarters decide distance squaredDistance
+unfolding quadrant nextQuadrant step turn quarterSteps isOrigin sent27 sentPoint inFirst first quarters decide distance squaredDistance
 most-distance = record { at-most = λ m z s hm r e. subst (Within m z) e (in-range-within m hm z r); reached = (refl, refl) }
 
 pub no-minimum : NoMinimum
-unfolding quadrant nextQuadrant step turn quarterSteps isOrigin sent27 sentPoint inFirst sector first turnedAnswer quarters decide distance squaredDistance
+unfolding quadrant nextQuadrant step turn quarterSteps isOrigin sent27 sentPoint inFirst sector first quarters decide distance squaredDistance
 no-minimum = record { decided = refl; to-decided = refl; to-another = refl }

@@ -6,7 +6,7 @@ use lib.ListN.{replicate}
 use Rattle.line.specs.Table.{entry, rowFrom}
 use Rattle.line.specs.Mode.{isMode, isRole, width, farTap, capacity, step, states, isState, quadrant, turn, quarterSteps, face}
 use Rattle.line.specs.Point.{inRange, isOrigin, sent27, sentPoint}
-use Rattle.deciding.specs.Decide.{inFirst, first, turnedAnswer, quarters, decide}
+use Rattle.deciding.specs.Decide.{inFirst, first, quarters, decide}
 use Rattle.coding.specs.Code.{changes4, coded, eighths, group}
 use Rattle.scrambler.specs.Bits.{isBit}
 use Rattle.scrambler.specs.Register.{back, nearTap, push, registerOk}
@@ -48,7 +48,7 @@ read-back =
     }
 
 pub premises : Premises
-unfolding sent listA listB entry rowFrom isMode isRole width farTap capacity step states isState quadrant turn quarterSteps face inRange isOrigin sent27 sentPoint inFirst first turnedAnswer quarters decide changes4 coded eighths group isBit back nearTap push registerOk mix freshReceiver isFresh fieldsOk modeRefusal stateRefusal hasRoom eventRefusal refusal stateAnswer pointAnswer eventAnswer answer forgotten stateLine stateNext pointNext eventNext next coding dataRefusal sendRefusal grouped afterGroup sendAnswer sendNumbers sendFieldsOk sendStateRefusal sendHasRoom neg isFinite rounded readingRefusal readingAnswer readingNext
+unfolding sent listA listB entry rowFrom isMode isRole width farTap capacity step states isState quadrant turn quarterSteps face inRange isOrigin sent27 sentPoint inFirst first quarters decide changes4 coded eighths group isBit back nearTap push registerOk mix freshReceiver isFresh fieldsOk modeRefusal stateRefusal hasRoom eventRefusal refusal stateAnswer pointAnswer eventAnswer answer forgotten stateLine stateNext pointNext eventNext next coding dataRefusal sendRefusal grouped afterGroup sendAnswer sendNumbers sendFieldsOk sendStateRefusal sendHasRoom neg isFinite rounded readingRefusal readingAnswer readingNext
 premises =
     record {
       points-A = (tt, (tt, (tt, (tt, (tt, (tt, (tt, (tt, tt))))))));
