@@ -42,13 +42,14 @@ abbrev regionAt : ℕ → ℕ → ℕ → ℕ → ℕ → Bool
 regionAt m x i j c =
     byMode m (eqb i j) (cond (eqb (x % 2) 0) (cond (eqb i 0) (eqb c 0) (eqb i 3 && eqb c 2)) (eqb i 0 && eqb c 1)) (eqb i j) (eqb i j && eqb (c % 4) (x % 4))
 
--- what j and c can be
+-- what j and c can be for a point with re > 0 and im ≥ 0
 abbrev turnsIn : ℕ → List ℕ
 turnsIn m = byMode m (0 ∷ 3 ∷ []) (0 ∷ []) (0 ∷ 3 ∷ []) (0 ∷ 1 ∷ [])
 
 abbrev firsts : ℕ → List ℕ
 firsts m = byMode m (0 ∷ []) (0 ∷ 1 ∷ 2 ∷ []) (13 ∷ []) (12 ∷ 13 ∷ 14 ∷ 15 ∷ [])
 
+-- of a point with re > 0 and im ≥ 0: its turn that lies in the first region, and what the regions say of each of its turns
 record Based (m : ℕ) (z : Point) : Type 0 where
   by : ℕ
   among : T (member by (turnsIn m))
@@ -64,6 +65,7 @@ sloped-turn m n a b e {A} f = go (decLe b (n * suc a))
     go (yes p) = f 0 tt (turn-within m n a b e p)
     go (no p) = f 3 tt (turn-past m n a b e (omega (arith, p)))
 
+-- mode 4: Q3 Q4 of the levels
 abbrev corner : Point → ℕ
 corner p = outer (p .re) + 2 * outer (p .im)
 
@@ -204,6 +206,7 @@ turned-back n k z h l =
     turn-add ((4 - n) % 4) k z ∙ turn-mod ((4 - n) % 4 + k) z (omega arith)
     ∙ ap (λ (i : ℕ). turnedBy i z) (eqb→eq (((4 - n) % 4 + k) % 4) ((k + 4 - n) % 4) (pairs-below (λ c d. eqb (((4 - c) % 4 + d) % 4) ((d + 4 - c) % 4)) 4 4 tt n k h l))
 
+-- the region of a state is that of its turn back
 back-region : (m : ℕ) → T (isMode m) → (x : ℕ) (z : Point) → inRegion m x z ≡ backRegion m x (turnedBy ((4 - quartersTo m x) % 4) z)
 back-region =
     mode-cases (λ m. (x : ℕ) (z : Point) → inRegion m x z ≡ backRegion m x (turnedBy ((4 - quartersTo m x) % 4) z)) (unfold inRegion in (λ x z. refl))
