@@ -6,15 +6,14 @@ use mathlib.Core.List.{map}
 use Prim.Native.Nat.{ℕ, zero, suc, _+_, _*_, _-_, _%_, _<_, _≤_}
 use native.Mathlib.Omega.{arith}
 use native.Mathlib.Decide.{decLe}
-use lib.Dec.{T, eqb, leb, eqb→eq}
-use lib.IntN.{ℤ, pos, natAbs, _+ℤ_, _*ℤ_}
+use lib.Dec.{T, eqb, eqb→eq}
+use lib.IntN.{ℤ}
 use lib.ListN.{getD}
-use lib.Signed.{ltZ}
 use Rattle.line.specs.declared.Point.{Point}
 use Rattle.line.specs.Table.{every}
 use Rattle.line.specs.Mode.{isMode, states, isState, quadrant, nextQuadrant, step, turn, turns, quarterSteps}
 use Rattle.line.specs.Point.{at, isOrigin, turned, turnedBy, sent27, levels32, sent32, sentPoint}
-use Rattle.deciding.specs.Decide.{Region, State, Origin, square, inFirst, sector, outer, first, quarters, turnedState, decideBy, decide, turnedAnswer}
+use Rattle.deciding.specs.Decide.{Region, State, Origin, inFirst, sector, outer, first, quarters, turnedState, decideBy, decide, turnedAnswer}
 use Rattle.deciding.specs.declared.Decision.{Decision}
 use Rattle.deciding.specs.declared.Decision.the-variants.{State as DecidedAs, Origin as AtOrigin}
 use Rattle.deciding.specs.declared.SquaredUnits.{SquaredUnits}
@@ -25,7 +24,7 @@ use Rattle.line.proofs.TableLaws.{below-at}
 use Rattle.line.proofs.StateLaws.{mode-cases, state-at, of-state, turns-state, turns-add, four-quarters}
 use Rattle.deciding.proofs.RingLaws.{by-ring, looked-up, origin-none}
 use Rattle.deciding.proofs.RegionLaws.{before, turn-four, origin-turned, turn-before, turn-decide, off-turned}
-use Rattle.deciding.proofs.OneRegion.{region-of}
+use Rattle.deciding.proofs.OneRegion.{first-state, region-of}
 
 -- THE ANSWER IS A STATE
 
@@ -33,31 +32,6 @@ use Rattle.deciding.proofs.OneRegion.{region-of}
 abbrev pub Off : ℕ → Region → Type 0
 Off m (State y) = T (isState m y)
 Off m Origin = ⊥
-
--- what holds of both states holds of the chosen one
-pub either : (P : ℕ → Type 0) (b : Bool) (x y : ℕ) → P x → P y → P (cond b x y)
-either P true x y p q = p
-either P false x y p q = q
-
-sector-state : (z : Point) → T (isState 2 (sector z))
-unfolding sector isState states
-sector-state z =
-    let P : ℕ → Type 0 = λ x. T (isState 2 x) in
-    let s : ℤ = square (z .re +ℤ z .im) in
-    let past : Bool = ltZ s (pos 2 *ℤ square (z .im)) in
-    either P (ltZ s (pos 2 *ℤ square (z .re))) 0 (cond past 2 1) tt (either P past 2 1 tt tt)
-
-corner-state : (a b : Bool) → T (isState 4 (12 + cond a 1 0 + 2 * cond b 1 0))
-unfolding isState states
-corner-state true true = tt
-corner-state true false = tt
-corner-state false true = tt
-corner-state false false = tt
-
-first-state : (m : ℕ) → T (isMode m) → (z : Point) → T (isState m (first m z))
-first-state =
-    mode-cases (λ m. (z : Point) → T (isState m (first m z))) (unfold first isState states in (λ z. tt)) (unfold first in sector-state)
-    (unfold first isState states in (λ z. tt)) (unfold first outer in (λ z. corner-state (leb 2048 (natAbs (z .re))) (leb 2048 (natAbs (z .im)))))
 
 pub decide-off : (m : ℕ) → T (isMode m) → (z : Point) → isOrigin z ≡ false → Off m (decide m z)
 unfolding decide

@@ -9,17 +9,17 @@ use native.Mathlib.Nat.{mod-lt}
 use native.Mathlib.Decide.{decLe}
 use borrow.Author.Tests.{lt-ltb}
 use lib.Dec.{T, eqb, ltb, leb, eqb→eq, ltb→lt}
-use lib.IntN.{ℤ, pos, negsuc, natAbs}
+use lib.IntN.{ℤ, pos, negsuc, natAbs, _+ℤ_, _*ℤ_}
+use lib.Signed.{ltZ}
 use Rattle.line.specs.declared.Point.{Point}
 use Rattle.line.specs.Table.{member, below, every}
 use Rattle.line.specs.Mode.{byMode, isMode, states, isState, quadrant, nextQuadrant, step, turn, quarterSteps}
 use Rattle.line.specs.Point.{at, isOrigin, turnedBy}
 use Rattle.line.proofs.StateLaws.{mode-cases, state-at, states-2}
 use Rattle.line.proofs.TableLaws.{and-left, and-right, alike, alike-eq, every-at, below-at, pairs-below}
-use Rattle.deciding.specs.Decide.{State, inFirst, sector, outer, first, turnedState, decide}
-use Rattle.deciding.specs.Regions.{about0, about45, inSector, quartersTo, inRegion}
+use Rattle.deciding.specs.Decide.{State, square, inFirst, sector, outer, first, turnedState, decide}
+use Rattle.deciding.specs.Regions.{about0, about45, quartersTo, regionBack, inRegion, inSector}
 use Rattle.deciding.specs.Laws.{InOneRegion, InOneSector}
-use Rattle.deciding.specs.Sizes.{sq}
 use Rattle.deciding.proofs.RegionLaws.{Turn, turn-add, turn-mod, turn-by, turned-decide, base, Sloped, sloped-1, sloped-3, turn-within, turn-past, turn-2, turn-4, turn-4-axis}
 use Rattle.deciding.proofs.SizeLaws.{not-zero, base-off}
 use Rattle.deciding.proofs.SectorLaws.{here, three, about0-left, about45-out}
@@ -33,11 +33,7 @@ at-each t (suc (suc zero)) h = t .at-2
 at-each t (suc (suc (suc zero))) h = t .at-3
 at-each t (suc (suc (suc (suc i)))) h = absurd (omega arith)
 
--- the region of the state x turned back to where p is
-abbrev backRegion : ℕ → ℕ → Point → Bool
-backRegion m x p = byMode m (inFirst 1 p) (cond (eqb (x % 2) 0) (about0 p) (about45 p)) (inFirst 3 p) (inFirst 4 p && eqb (outer (p .re) + 2 * outer (p .im)) (x % 4))
-
--- the same of the turn i of a point whose turn j is in the first region and there decided as c
+-- `regionBack` of the turn i of a point whose turn j is in the first region and there decided as c
 abbrev regionAt : ℕ → ℕ → ℕ → ℕ → ℕ → Bool
 regionAt m x i j c =
     byMode m (eqb i j) (cond (eqb (x % 2) 0) (cond (eqb i 0) (eqb c 0) (eqb i 3 && eqb c 2)) (eqb i 0 && eqb c 1)) (eqb i j) (eqb i j && eqb (c % 4) (x % 4))
@@ -54,8 +50,7 @@ record Based (m : ℕ) (z : Point) : Type 0 where
   by : ℕ
   among : T (member by (turnsIn m))
   turn : Turn m z by
-  is-first : T (member (first m (turnedBy by z)) (firsts m))
-  regions : (x i : ℕ) → i < 4 → backRegion m x (turnedBy i z) ≡ regionAt m x i by (first m (turnedBy by z))
+  regions : (x i : ℕ) → i < 4 → regionBack m x (turnedBy i z) ≡ regionAt m x i by (first m (turnedBy by z))
 
 -- modes 1 and 3
 sloped-turn : (m n a b : ℕ) → Sloped m n → {A : Type 0} → ((j : ℕ) → T (member j (0 ∷ 3 ∷ [])) → Turn m (base m a b) j → A) → A
@@ -79,6 +74,32 @@ first-corner p = go (leb 2048 (natAbs (p .re))) (leb 2048 (natAbs (p .im)))
     go false true = (tt, refl)
     go false false = (tt, refl)
 
+-- what holds of both states holds of the chosen one
+pub either : (P : ℕ → Type 0) (b : Bool) (x y : ℕ) → P x → P y → P (cond b x y)
+either P true x y p q = p
+either P false x y p q = q
+
+sector-among : (z : Point) → T (member (sector z) (firsts 2))
+unfolding sector
+sector-among z =
+    let P : ℕ → Type 0 = λ s. T (member s (firsts 2)) in
+    let s : ℤ = square (z .re +ℤ z .im) in
+    let past : Bool = ltZ s (pos 2 *ℤ square (z .im)) in
+    either P (ltZ s (pos 2 *ℤ square (z .re))) 0 (cond past 2 1) tt (either P past 2 1 tt tt)
+
+first-among : (m : ℕ) → T (isMode m) → (z : Point) → T (member (first m z) (firsts m))
+first-among =
+    mode-cases (λ m. (z : Point) → T (member (first m z) (firsts m))) (unfold first in (λ z. tt))
+    (unfold first in sector-among) (unfold first in (λ z. tt))
+    (λ z. first-corner z .0)
+
+-- the state of a point of the first region is one of the mode
+pub first-state : (m : ℕ) → T (isMode m) → (z : Point) → T (isState m (first m z))
+first-state m hm z = every-at (isState m) (firsts m) (first m z) (states-of m hm) (first-among m hm z)
+  where
+    states-of : (m : ℕ) → T (isMode m) → T (every (isState m) (firsts m))
+    states-of = mode-cases (λ m. T (every (isState m) (firsts m))) (unfold isState states in tt) (unfold isState states in tt) (unfold isState states in tt) (unfold isState states in tt)
+
 same-at : (i j : ℕ) (f : ℕ → Bool) → eqb i j && f i ≡ eqb i j && f j
 same-at i j f = go (eqb i j) refl
   where
@@ -89,11 +110,11 @@ same-at i j f = go (eqb i j) refl
 module _ (a b : ℕ) where
   based-1 : Based 1 (base 1 a b)
   unfolding first
-  based-1 = sloped-turn 1 1 a b (sloped-1 1 (omega arith)) (λ j h t. record { by = j; among = h; turn = t; is-first = tt; regions = λ x i l. at-each t i l })
+  based-1 = sloped-turn 1 1 a b (sloped-1 1 (omega arith)) (λ j h t. record { by = j; among = h; turn = t; regions = λ x i l. at-each t i l })
 
   based-3 : Based 3 (base 3 a b)
   unfolding first
-  based-3 = sloped-turn 3 2 a b (sloped-3 3 refl) (λ j h t. record { by = j; among = h; turn = t; is-first = tt; regions = λ x i l. at-each t i l })
+  based-3 = sloped-turn 3 2 a b (sloped-3 3 refl) (λ j h t. record { by = j; among = h; turn = t; regions = λ x i l. at-each t i l })
 
   -- what `three` says at each turn
   even : (i : ℕ) → i < 4 → about0 (turnedBy i (here a b)) ≡ cond (eqb i 0) (eqb (sector (here a b)) 0) (eqb i 3 && eqb (sector (here a b)) 2)
@@ -108,18 +129,9 @@ module _ (a b : ℕ) where
   odd (suc i) l =
       about45-out _ (at-each (turn-2 2 a b refl) (suc i) l ∙ not-zero i) ∙ ap (λ (t : Bool). t && eqb (sector (here a b)) 1) (sym (not-zero i))
 
-  sector-among : T (member (sector (here a b)) (firsts 2))
-  unfolding sector
-  sector-among = go (ltb (sq (suc a + b)) (2 * sq (suc a))) (ltb (sq (suc a + b)) (2 * sq b))
-    where
-      go : (t u : Bool) → T (member (cond t 0 (cond u 2 1)) (firsts 2))
-      go true u = tt
-      go false true = tt
-      go false false = tt
-
   based-2 : Based 2 (base 2 a b)
   unfolding first
-  based-2 = record { by = 0; among = tt; turn = turn-2 2 a b refl; is-first = sector-among; regions = λ x i l. ap₂ (cond (eqb (x % 2) 0)) (even i l) (odd i l) }
+  based-2 = record { by = 0; among = tt; turn = turn-2 2 a b refl; regions = λ x i l. ap₂ (cond (eqb (x % 2) 0)) (even i l) (odd i l) }
 
   based-4 : Based 4 (base 4 a b)
   based-4 = go (decLe b 0)
@@ -130,7 +142,6 @@ module _ (a b : ℕ) where
             by = j;
             among = h;
             turn = t;
-            is-first = first-corner (turnedBy j (base 4 a b)) .0;
             regions = λ x i l.
                 ap (λ (u : Bool). u && eqb (corner (turnedBy i (base 4 a b))) (x % 4)) (at-each t i l)
                 ∙ same-at i j (λ n. eqb (corner (turnedBy n (base 4 a b))) (x % 4))
@@ -147,23 +158,24 @@ based = mode-cases (λ m. (a b : ℕ) → Based m (base m a b)) based-1 based-2 
 -- EVERY POINT OFF THE ORIGIN
 
 -- a point as k turns of one with re > 0 and im ≥ 0
-record Quartered (z : Point) : Type 0 where
-  k : ℕ
-  a : ℕ
-  b : ℕ
-  small : k < 4
-  is : z ≡ turnedBy k (at (pos (suc a)) (pos b))
+pub record Quartered (z : Point) : Type 0 where
+  pub k : ℕ
+  pub a : ℕ
+  pub b : ℕ
+  pub small : k < 4
+  pub is : z ≡ turnedBy k (at (pos (suc a)) (pos b))
+  pub sizes : (n : ℕ) → natAbs (z .re) ≤ n → natAbs (z .im) ≤ n → (suc a ≤ n) × (b ≤ n)
 
-quartered : (re im : ℤ) → isOrigin (at re im) ≡ false → Quartered (at re im)
+pub quartered : (re im : ℤ) → isOrigin (at re im) ≡ false → Quartered (at re im)
 unfolding isOrigin
 quartered (pos zero) (pos zero) o = absurd (subst T o tt)
-quartered (pos (suc x)) (pos y) o = record { k = 0; a = x; b = y; small = omega arith; is = refl }
-quartered (pos zero) (pos (suc y)) o = record { k = 1; a = y; b = 0; small = omega arith; is = refl }
-quartered (negsuc x) (pos (suc y)) o = record { k = 1; a = y; b = suc x; small = omega arith; is = refl }
-quartered (negsuc x) (pos zero) o = record { k = 2; a = x; b = 0; small = omega arith; is = refl }
-quartered (negsuc x) (negsuc y) o = record { k = 2; a = x; b = suc y; small = omega arith; is = refl }
-quartered (pos zero) (negsuc y) o = record { k = 3; a = y; b = 0; small = omega arith; is = refl }
-quartered (pos (suc x)) (negsuc y) o = record { k = 3; a = y; b = suc x; small = omega arith; is = refl }
+quartered (pos (suc x)) (pos y) o = record { k = 0; a = x; b = y; small = omega arith; is = refl; sizes = λ n h k. (h, k) }
+quartered (pos zero) (pos (suc y)) o = record { k = 1; a = y; b = 0; small = omega arith; is = refl; sizes = λ n h k. (k, h) }
+quartered (negsuc x) (pos (suc y)) o = record { k = 1; a = y; b = suc x; small = omega arith; is = refl; sizes = λ n h k. (k, h) }
+quartered (negsuc x) (pos zero) o = record { k = 2; a = x; b = 0; small = omega arith; is = refl; sizes = λ n h k. (h, k) }
+quartered (negsuc x) (negsuc y) o = record { k = 2; a = x; b = suc y; small = omega arith; is = refl; sizes = λ n h k. (h, k) }
+quartered (pos zero) (negsuc y) o = record { k = 3; a = y; b = 0; small = omega arith; is = refl; sizes = λ n h k. (k, h) }
+quartered (pos (suc x)) (negsuc y) o = record { k = 3; a = y; b = suc x; small = omega arith; is = refl; sizes = λ n h k. (k, h) }
 
 -- the turn of a point that lies in the first region, where no other does
 pub record InOne (m : ℕ) (z : Point) : Type 0 where
@@ -206,12 +218,6 @@ turned-back n k z h l =
     turn-add ((4 - n) % 4) k z ∙ turn-mod ((4 - n) % 4 + k) z (omega arith)
     ∙ ap (λ (i : ℕ). turnedBy i z) (eqb→eq (((4 - n) % 4 + k) % 4) ((k + 4 - n) % 4) (pairs-below (λ c d. eqb (((4 - c) % 4 + d) % 4) ((d + 4 - c) % 4)) 4 4 tt n k h l))
 
--- the region of a state is that of its turn back
-back-region : (m : ℕ) → T (isMode m) → (x : ℕ) (z : Point) → inRegion m x z ≡ backRegion m x (turnedBy ((4 - quartersTo m x) % 4) z)
-back-region =
-    mode-cases (λ m. (x : ℕ) (z : Point) → inRegion m x z ≡ backRegion m x (turnedBy ((4 - quartersTo m x) % 4) z)) (unfold inRegion in (λ x z. refl))
-    (unfold inRegion inSector quartersTo in (λ x z. refl)) (unfold inRegion in (λ x z. refl)) (unfold inRegion in (λ x z. refl))
-
 -- what `InOneRegion` says of a point
 abbrev One : ℕ → Point → Type 0
 One m z = (s : ℕ) × T (isState m s) × (decide m z ≡ State s) × ((x : ℕ) → T (isState m x) → inRegion m x z ≡ eqb x s)
@@ -232,15 +238,15 @@ module _ (m : ℕ) (hm : T (isMode m)) (k a b : ℕ) (l : k < 4) where
       every-at (regionTests m k by) (firsts m) own
       (every-at (λ j. every (regionTests m k j) (firsts m)) (turnsIn m) by
       (below-at (λ n. every (λ j. every (regionTests m n j) (firsts m)) (turnsIn m)) 4 (tests m hm) k l) (quarter .among))
-      (quarter .is-first)
+      (first-among m hm (turnedBy by (base m a b)))
 
   each-region : (x : ℕ) → T (isState m x) → inRegion m x (turnedBy k (base m a b)) ≡ eqb x (stateAt m k by own)
+  unfolding inRegion
   each-region x hx =
       let n : ℕ = quartersTo m x in
       let t : T (ltb n 4 && regionTest m k by own x) =
       state-at m (λ y. ltb (quartersTo m y) 4 && regionTest m k by own y) (and-right (isState m (stateAt m k by own)) _ passed) x hx in
-      back-region m hm x (turnedBy k (base m a b))
-      ∙ ap (backRegion m x) (turned-back n k (base m a b) (ltb→lt n 4 (and-left (ltb n 4) (regionTest m k by own x) t)) l)
+      ap (regionBack m x) (turned-back n k (base m a b) (ltb→lt n 4 (and-left (ltb n 4) (regionTest m k by own x) t)) l)
       ∙ quarter .regions x ((k + 4 - n) % 4) (mod-lt (k + 4 - n) (omega arith))
       ∙ alike-eq (regionAt m x ((k + 4 - n) % 4) by own) _ (and-right (ltb n 4) (regionTest m k by own x) t)
 
@@ -256,7 +262,7 @@ pub in-one-region : InOneRegion
 in-one-region m p hm o = let q = quartered (p .re) (p .im) o in subst (One m) (sym (q .is)) (in-one m hm (q .k) (q .a) (q .b) (q .small))
 
 pub in-one-sector : InOneSector
-unfolding isMode inRegion
+unfolding isMode
 in-one-sector p o = each (in-one-region 2 p tt o)
   where
     state-is : (i : ℕ) → ltb i 8 ≡ isState 2 i

@@ -6,7 +6,7 @@ use native.Mathlib.Omega.{arith}
 use native.Mathlib.Decide.{decLt}
 use borrow.Author.Tests.{leb-true, leb-false}
 use lib.Dec.{T, ltb, leb}
-use lib.IntN.{ℤ, pos, negsuc, natAbs, subℕ}
+use lib.IntN.{pos, natAbs, subℕ}
 use lib.ListN.{getD}
 use Rattle.line.specs.declared.Point.{Point}
 use Rattle.line.specs.Mode.{isMode, quadrant, nextQuadrant, step, turn, turns, quarterSteps}
@@ -18,7 +18,8 @@ use Rattle.deciding.specs.Distance.{squaredDistance, distance}
 use Rattle.deciding.specs.Sizes.{sq}
 use Rattle.deciding.specs.Laws.{MostDistance, NoMinimum}
 use Rattle.deciding.proofs.Arcs.{arc, state1, state2, ring3, state3, ring4, outerSize, state4, stateArc}
-use Rattle.deciding.proofs.DecideLaws.{Off, either, decide-off, at-origin, turn-decides}
+use Rattle.deciding.proofs.DecideLaws.{Off, decide-off, at-origin, turn-decides}
+use Rattle.deciding.proofs.OneRegion.{either, quartered}
 use Rattle.deciding.proofs.Differences.{sub-pos, sub-neg}
 use Rattle.deciding.proofs.DistanceLaws.{squares-most, turn-keeps}
 use Rattle.deciding.proofs.RegionLaws.{base, off-turned}
@@ -125,17 +126,6 @@ module _ (m : ℕ) (hm : T (isMode m)) where
   quarter-within : (k a b : ℕ) → suc a ≤ 16384 → b ≤ 16384 → Within m (turnedBy k (base m a b)) (decide m (turnedBy k (base m a b)))
   quarter-within k a b ha hb = turns-within k (base m a b) (base-off m a b) (subst (Within m (base m a b)) (sym (arc-decide m 0 a b (omega arith))) (arc-within a b ha hb))
 
-  sizes-within : (re im : ℤ) → natAbs re ≤ 16384 → natAbs im ≤ 16384 → isOrigin (at re im) ≡ false → Within m (at re im) (decide m (at re im))
-  unfolding isOrigin
-  sizes-within (pos zero) (pos zero) h k o = absurd (subst T o tt)
-  sizes-within (pos (suc x)) (pos y) h k o = quarter-within 0 x y h k
-  sizes-within (pos zero) (pos (suc y)) h k o = quarter-within 1 y 0 k h
-  sizes-within (negsuc x) (pos (suc y)) h k o = quarter-within 1 y (suc x) k h
-  sizes-within (negsuc x) (pos zero) h k o = quarter-within 2 x 0 h k
-  sizes-within (negsuc x) (negsuc y) h k o = quarter-within 2 x (suc y) h k
-  sizes-within (pos zero) (negsuc y) h k o = quarter-within 3 y 0 k h
-  sizes-within (pos (suc x)) (negsuc y) h k o = quarter-within 3 y (suc x) k h
-
   in-range-within : (z : Point) → T (inRange z) → Within m z (decide m z)
   unfolding inRange
   in-range-within z r = go (isOrigin z) refl
@@ -143,8 +133,9 @@ module _ (m : ℕ) (hm : T (isMode m)) where
       go : (b : Bool) → isOrigin z ≡ b → Within m z (decide m z)
       go true o = subst (Within m z) (sym (at-origin m z o)) tt
       go false o =
-          sizes-within (z .re) (z .im) (leb-true _ _ (is-true _ (and-left (coordinateIn (z .re)) (coordinateIn (z .im)) r)))
-          (leb-true _ _ (is-true _ (and-right (coordinateIn (z .re)) (coordinateIn (z .im)) r))) o
+          let q = quartered (z .re) (z .im) o in
+          let h = q .sizes 16384 (leb-true _ _ (is-true _ (and-left (coordinateIn (z .re)) (coordinateIn (z .im)) r))) (leb-true _ _ (is-true _ (and-right (coordinateIn (z .re)) (coordinateIn (z .im)) r))) in
+          subst (λ (w : Point). Within m w (decide m w)) (sym (q .is)) (quarter-within (q .k) (q .a) (q .b) (h .0) (h .1))
 
 pub most-distance : MostDistance
 unfolding quadrant nextQuadrant step turn quarterSteps isOrigin sent27 sentPoint inFirst first quarters decide distance squaredDistance

@@ -13,7 +13,7 @@ use lib.Signed.{ltZ}
 use Rattle.line.specs.declared.Point.{Point}
 use Rattle.line.specs.Point.{at, turnedBy}
 use Rattle.deciding.specs.Decide.{square, inFirst, sector}
-use Rattle.deciding.specs.Regions.{about0, about45, inSector}
+use Rattle.deciding.specs.Regions.{about0, about45, quartersTo, inRegion}
 use Rattle.deciding.specs.Laws.{NextToEdge}
 use Rattle.deciding.specs.Sizes.{sq}
 use Rattle.deciding.proofs.Differences.{sub-pos, sub-neg, same-difference, pos-difference, neg-pos, sum-difference}
@@ -21,7 +21,7 @@ use Rattle.deciding.proofs.RegionLaws.{base}
 use Rattle.deciding.proofs.Squares.{strict}
 
 pub next-to-edge : NextToEdge
-unfolding about0 about45 inSector
+unfolding about0 about45 quartersTo inRegion
 next-to-edge = record { past-edge = tt; before-edge = tt }
 
 -- THE SECTORS OF A POINT WITH re > 0 AND im ≥ 0

@@ -51,7 +51,7 @@ InOneRegion =
     → (s : ℕ) × T (isState m s) × (decide m p ≡ State s) × ((x : ℕ) → T (isState m x) → inRegion m x p ≡ eqb x s)
 
 -- How near points within range come to an edge: at (13860, 5741) the squares are 384,199,201 and 2 times 192,099,600, one apart, at
--- (5741, 2378) 65,918,161 and 2 times 32,959,081; the next such point is out of range.
+-- (5741, 2378) 65,918,161 and 2 times 32,959,081.
 pub record NextToEdge : Type 0 where
   pub past-edge : T (inSector 1 (at (pos 13860) (pos 5741)))
   pub before-edge : T (inSector 0 (at (pos 5741) (pos 2378)))

@@ -27,19 +27,22 @@ about45 z =
     let s : ℤ = square (z .re +ℤ z .im) in
     (leZ (pos 0) (z .im) && ltZ (pos 0) (z .re)) && (ltZ (pos 2 *ℤ square (z .re)) s && ltZ (pos 2 *ℤ square (z .im)) s)
 
--- sector k of the eight, about state k: 2, 4 and 6 are the turns of sector 0 by 90°, 180° and 270°, and 3, 5 and 7 those of sector 1
-unfoldable pub inSector : ℕ → Point → Bool
-inSector k z = let p : Point = turnedBy ((4 - k / 2) % 4) z in cond (eqb (k % 2) 0) (about0 p) (about45 p)
-
 -- how many turns of 90° lead from the first region to a state: from 0° in modes 1 and 2, from quadrant I, whose Y1 Y2 is 11, in 3 and 4
 unfoldable pub quartersTo : ℕ → ℕ → ℕ
 quartersTo m s =
     let quadrants : ℕ = getD (2 ∷ 3 ∷ 1 ∷ 0 ∷ []) (quadrant s) 0 in
     byMode m (s / 2) (s / 2) quadrants quadrants
 
--- The region of a state: the turn of the first one that leads to it. Modes 1 and 3: more than -45° and at most +45° from the state.
--- Mode 2: its sector. Mode 4: its quadrant, where, turned back to I, Q4 says that re is of level 3, and Q3 that im is.
+-- A state's region turned back by these turns. Modes 1 and 3: the first region. Mode 2: sector 0 of an even state, sector 1 of an odd one.
+-- Mode 4: the part of quadrant I where Q4 says that re is of level 3, and Q3 that im is.
+abbrev pub regionBack : ℕ → ℕ → Point → Bool
+regionBack m s p =
+    byMode m (inFirst 1 p) (cond (eqb (s % 2) 0) (about0 p) (about45 p)) (inFirst 3 p) (inFirst 4 p && eqb (outer (p .re) + 2 * outer (p .im)) (s % 4))
+
+-- the region of a state: "other quadrants are its turns"
 unfoldable pub inRegion : ℕ → ℕ → Point → Bool
-inRegion m s z =
-    let p : Point = turnedBy ((4 - quartersTo m s) % 4) z in
-    byMode m (inFirst 1 p) (inSector s z) (inFirst 3 p) (inFirst 4 p && eqb (outer (p .re) + 2 * outer (p .im)) (s % 4))
+inRegion m s z = regionBack m s (turnedBy ((4 - quartersTo m s) % 4) z)
+
+-- sector k of the eight, about state k: 2, 4 and 6 are the turns of sector 0 by 90°, 180° and 270°, and 3, 5 and 7 those of sector 1
+abbrev pub inSector : ℕ → Point → Bool
+inSector k z = inRegion 2 k z
