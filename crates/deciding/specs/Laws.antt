@@ -1,5 +1,5 @@
 -- What `decide` tells in document 01's and 02's terms, and what holds of it: the statements, whose proofs are in proofs/DecideLaws,
--- proofs/OneRegion, proofs/DistanceLaws and proofs/RangeLaws.
+-- proofs/OneRegion, proofs/SectorLaws, proofs/DistanceLaws and proofs/RangeLaws.
 use Prim.Native.Nat.{ℕ, _<_, _≤_}
 use mathlib.Core.Path.{_≡_}
 use mathlib.Core.Bool.{false, cond}
