@@ -2,10 +2,22 @@
 
 use outside::refusal::ORDER;
 
-/// The largest refusal number, those below it and 0, an accepted call.
-const NUMBERS: usize = 19;
+/// The largest refusal number, those below it and 0, an accepted call. Number 10
+/// is not used any more and keeps its place.
+const NUMBERS: usize = 1 + largest(&ORDER) as usize;
 /// Differences that are printed in full.
 const SHOWN: u64 = 5;
+
+const fn largest(numbers: &[u8]) -> u8 {
+    let (mut most, mut k) = (0, 0);
+    while k < numbers.len() {
+        if most < numbers[k] {
+            most = numbers[k];
+        }
+        k += 1;
+    }
+    most
+}
 
 /// Where a refusal number stands in the order in which they count, 18 after 7.
 fn rank(number: u8) -> Option<usize> {
