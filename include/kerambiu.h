@@ -9,11 +9,12 @@
  * that apply, the first in the order of this list is given, in which 18 stands between 7 and 8. The table over each function
  * has its numbers in that order and what they are about there. All numbers:
  *
- *    1  mode not 1 to 4, a handed-in state's included
+ *    1  mode not 1 to 6, a handed-in state's included
  *    2  role not one of the mode's, a state's included
- *    3  training length not 0 or 1 (modes 1 and 2), not 1280 to 8192 (3 and 4)
+ *    3  training length not 0 or 1 (modes 1, 2, 5 and 6), not 1280 to 8192 (3 and 4)
  *    4  a handed-in state with another field outside its range: a reference that is no state of the mode, more than R line
- *       bits, in a sender fewer than R, in a receiver any without a reference; or a byte that is not as its layout has it
+ *       bits, in a sender fewer than R, in a receiver any without a reference; a guard's count above 33, or above zero in modes
+ *       1 to 4 or with fewer than 12 line bits; or a byte that is not as its layout has it
  *    5  a data byte above 1
  *    6  data bits not a multiple of w (none is fine)
  *    7  lent numbers too few from the offset, or an offset past their end; also fewer lent bytes than a state, an answer, a
@@ -22,7 +23,7 @@
  *   18  a coordinate in levels, or a power, that is NaN or infinite
  *    8  a coordinate outside -16384 to 16384; one in levels after rounding
  *    9  a gap, a hole, or a lost count to append, of 0
- *   10  not used any more, and given to nothing else: every mode 2 point off the origin is in one of the eight sectors
+ *   10  not used any more, and given to nothing else: every point off the origin is in one of the eight sectors
  *   11  store size not 32 times an N from 2 to 2048
  *   12  record 0's four bytes, mode, role or a byte due to be zero
  *   13  an index of N or more, or met twice
@@ -36,13 +37,21 @@
  *      2   V.27 ter 4800 bit/s                                     3                            7   0
  *      3   V.32 4800 bit/s                                         2                           23   0, 1
  *      4   V.32 9600 bit/s, no trellis code                        4                           23   0, 1
+ *      5   V.27 ter 2400 bit/s with the guard                      2                           12   0
+ *      6   V.27 ter 4800 bit/s with the guard                      3                           12   0
+ *
+ * Modes 5 and 6 are modes 1 and 2 with V.27 ter's guard against repeated patterns, as most V.27 ter modems and fax machines have
+ * it. Both sides count: when the count is 33 a bit is inverted and the count becomes 0; otherwise the count becomes 0 if the
+ * line bit differs from all three line bits 8, 9 and 12 back, and else grows by one. A receiver counts once it holds 12 line
+ * bits. After a gap, or on a track taken up in its middle, its count can be another than the sender's until a line bit differs
+ * from all three: up to there a settled data bit can still be wrong. Whether a line has the guard is not seen from its points.
  *
  * Role 0 is the calling sender, 1 the answering one; a receiver has the role of the sender that it listens to. A point is re
- * and im, 1024 to one level. A state of modes 1 and 2 is 0 to 7, at 45 degrees times the number (even ones only in mode 1); of
- * modes 3 and 4 it is the bits Y1 Y2 Q3 Q4 as a number, Y1 highest (1, 5, 9 and 13 only in mode 3).
+ * and im, 1024 to one level. A state of modes 1, 2, 5 and 6 is 0 to 7, at 45 degrees times the number (even ones only in modes 1 and
+ * 5); of modes 3 and 4 it is the bits Y1 Y2 Q3 Q4 as a number, Y1 highest (1, 5, 9 and 13 only in mode 3).
  *
- * A point in levels has floats of 32 bits (IEEE 754) for coordinates: 1.0 is one level, 1024 units. Points of modes 1 and 2
- * are sent 4.0 levels from the origin, those of modes 3 and 4 have coordinates of 1.0 and 3.0; another scale is not refused, but
+ * A point in levels has floats of 32 bits (IEEE 754) for coordinates: 1.0 is one level, 1024 units. Points of modes 1, 2, 5
+ * and 6 are sent 4.0 levels from the origin, those of modes 3 and 4 have coordinates of 1.0 and 3.0; another scale is not refused, but
  * in mode 4 it gives wrong bits, since sizes are compared with 2.0 levels there. Each coordinate becomes the whole
  * number nearest 1024 times it, of two equally near ones the even one, so that it is never more than half a unit away; from
  * there on the point is that of the two whole numbers, also in its distance. Range is judged after rounding: 16.00048828125 is
@@ -71,7 +80,9 @@ extern "C" {
  *    4  the register's line bits, u32,            4  the register's line bits, u32,
  *       newest lowest, zero beyond the count         newest lowest, zero beyond the count
  *    8  their count, 0 to R                       8  their count, R
- *    9  three zeros                               9  seven zeros
+ *    9  the guard's count, 0 to 33;               9  the guard's count, 0 to 33;
+ *       0 in modes 1 to 4                            0 in modes 1 to 4
+ *   10  two zeros                                10  six zeros
  *   12  the place in unit intervals, u32
  */
 #define KERAMBIU_STATE_BYTES 16
@@ -88,14 +99,14 @@ extern "C" {
  *
  * The distance is that from the received point to the sent point of the decided state, in squared units, 1024 units to one
  * level: the squares of how far re and im are apart, added. A point in range has 419430400 at most. No minimum is promised: in
- * mode 2 the decided state is not always that of the nearest sent point. There (1, 0) is decided 0 with the distance 16769025,
+ * modes 2 and 6 the decided state is not always that of the nearest sent point. There (1, 0) is decided 0 with the distance 16769025,
  * and is 16767841 from the sent point of state 1. A mean over distances leaves out gaps and, in a block, the points beside
  * KERAMBIU_ORIGIN: their 0 is no measurement.
  */
 #define KERAMBIU_ANSWER_BYTES 12
 
 /*
- * Makes a receiver that has taken nothing: no reference, no line bits, place 0.
+ * Makes a receiver that has taken nothing: no reference, no line bits, count 0, place 0.
  *    1, 2     the mode, the role
  *    7        fewer bytes than a state has
  */
@@ -185,7 +196,7 @@ uint8_t kerambiu_receive_level_points(uint8_t *state, size_t state_len, const fl
 
 /*
  * Opens a sender: writes the points of its training, re and im in turn, into the lent numbers from the offset on, and the state
- * after it. In modes 1 and 2 the length is 0 for 80 points or 1 for 1132; in modes 3 and 4 it is the intervals of the third
+ * after it. In modes 1, 2, 5 and 6 the length is 0 for 80 points or 1 for 1132; in modes 3 and 4 it is the intervals of the third
  * segment, and the points are 272 more.
  *    1, 2, 3  the mode, the role, the length
  *    7        fewer bytes than a state has; fewer numbers from the offset on than two for each point, or an offset past their

@@ -5,6 +5,7 @@
 //! of the code, and in every width that a value may have.
 
 use crate::code::QUADRANT_CODE;
+use crate::object::{pieces, sections, Piece};
 
 /// Bytes that a value may have.
 const WIDTHS: [usize; 4] = [1, 2, 4, 8];
@@ -13,6 +14,8 @@ const WIDTHS: [usize; 4] = [1, 2, 4, 8];
 /// several share a byte only the whole table is told from chance.
 const PART: usize = 5;
 const PART_OF_MULTIPLES: usize = 4;
+/// Bytes of a constant of a vector's size.
+const CONSTANT: usize = 16;
 
 /// A list of the table's values, and what it lists.
 pub struct Rows {
@@ -20,7 +23,7 @@ pub struct Rows {
     pub values: [u8; 16],
 }
 
-/// What stands in a file, and where.
+/// What stands in a file, and at which of the file's bytes.
 #[derive(Debug, PartialEq)]
 pub struct Found {
     pub what: String,
@@ -117,12 +120,26 @@ pub fn forms(rows: &Rows) -> Vec<(String, Vec<u8>)> {
     forms
 }
 
-/// Everything of the table that stands in a file.
+/// Where in the file some bytes first stand in a piece.
+fn place(piece: &Piece, bytes: &[u8]) -> Option<usize> {
+    let mut windows = piece.bytes.windows(bytes.len());
+    Some(piece.at + windows.position(|window| window == bytes)?)
+}
+
+/// Everything of the table that stands in a file, in one piece of it: what is beside
+/// it in the file alone is not in the image. A form that is longer than a constant of
+/// a vector's size would be several, and is looked for in the whole section.
 pub fn search(file: &[u8]) -> Vec<Found> {
+    let (pieces, sections) = (pieces(file), sections(file));
     let mut found = Vec::new();
     for rows in tables() {
         for (what, bytes) in forms(&rows) {
-            if let Some(at) = file.windows(bytes.len()).position(|window| window == bytes) {
+            let within = if bytes.len() > CONSTANT {
+                &sections
+            } else {
+                &pieces
+            };
+            if let Some(at) = within.iter().find_map(|piece| place(piece, &bytes)) {
                 found.push(Found { what, at });
             }
         }

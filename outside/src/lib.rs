@@ -1,16 +1,19 @@
 //! The line recorder's symbol codec in plain Rust, written from document 01
-//! (`01-scope.md`), requests of document 02
+//! (`01-scope.md`), requests of document 02
 //! (`02-change-requests.md`) and Recommendations V.27 ter (000) and V.32 (001).
 //!
 //! It is the outside implementation that the proved one is compared with.
 //! Every public call is total; a refused call gives its number alone and leaves
 //! states and buffers as they were.
 
+pub mod assurance;
 pub mod code;
 pub mod image;
 pub mod limits;
 pub mod listing;
 pub mod mode;
+pub mod object;
+pub mod patterns;
 pub mod point;
 pub mod reading;
 pub mod receiver;

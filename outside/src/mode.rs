@@ -1,7 +1,8 @@
-//! The four modes and their parameters (document 01, "Modes, states, turns").
+//! The six modes and their parameters (document 01, "Modes, states, turns";
+//! document 02, R-6).
 
 use crate::refusal::Refusal;
-use crate::scrambler::Scrambler;
+use crate::scrambler::{Scrambler, GUARD_LENGTH};
 
 /// The Recommendation that a mode belongs to.
 #[derive(Clone, Copy, PartialEq, Eq, Debug)]
@@ -14,15 +15,22 @@ pub enum Line {
 #[derive(PartialEq, Eq, Debug)]
 pub struct Mode {
     pub number: u8,
+    /// The mode with the same points, states and code that has no guard: what is
+    /// told by it is told once for a mode with the guard and one without.
+    pub unguarded: u8,
     pub line: Line,
     /// w, the line bits in a point.
     pub width: u32,
     /// R, the length of the scrambler's register in line bits.
     pub register_length: u32,
+    /// Whether the scrambler has the guard against repeated patterns.
+    pub guard: bool,
     /// The smallest turn carrying the states onto themselves, in degrees.
     pub step: u16,
     /// How far back the nearer tap of the scrambler is, for each role.
     pub near_taps: &'static [u32],
+    /// How far back its other tap is.
+    pub far_tap: u32,
     /// The states in increasing number. V.32 states are Y1 Y2 Q3 Q4 read as a
     /// binary number.
     pub states: &'static [u8],
@@ -54,48 +62,81 @@ const fn set_of(states: &[u8]) -> u16 {
     set
 }
 
+const MODE_1: Mode = Mode {
+    number: 1,
+    unguarded: 1,
+    line: Line::V27ter,
+    width: 2,
+    register_length: 7,
+    guard: false,
+    step: 90,
+    near_taps: &[6],
+    far_tap: 7,
+    states: MODE_1_STATES,
+    state_set: set_of(MODE_1_STATES),
+};
+
+const MODE_2: Mode = Mode {
+    number: 2,
+    unguarded: 2,
+    line: Line::V27ter,
+    width: 3,
+    register_length: 7,
+    guard: false,
+    step: 45,
+    near_taps: &[6],
+    far_tap: 7,
+    states: MODE_2_STATES,
+    state_set: set_of(MODE_2_STATES),
+};
+
+const MODE_3: Mode = Mode {
+    number: 3,
+    unguarded: 3,
+    line: Line::V32,
+    width: 2,
+    register_length: 23,
+    guard: false,
+    step: 90,
+    near_taps: &[18, 5],
+    far_tap: 23,
+    states: MODE_3_STATES,
+    state_set: set_of(MODE_3_STATES),
+};
+
+const MODE_4: Mode = Mode {
+    number: 4,
+    unguarded: 4,
+    line: Line::V32,
+    width: 4,
+    register_length: 23,
+    guard: false,
+    step: 90,
+    near_taps: &[18, 5],
+    far_tap: 23,
+    states: MODE_4_STATES,
+    state_set: set_of(MODE_4_STATES),
+};
+
+/// A mode with the guard: all else is as it was, but that the register holds what
+/// the guard compares with.
+const fn with_guard(mode: Mode, number: u8) -> Mode {
+    Mode {
+        number,
+        register_length: GUARD_LENGTH,
+        guard: true,
+        ..mode
+    }
+}
+
 /// Mode m is entry m − 1.
-pub static MODES: [Mode; 4] = [
-    Mode {
-        number: 1,
-        line: Line::V27ter,
-        width: 2,
-        register_length: 7,
-        step: 90,
-        near_taps: &[6],
-        states: MODE_1_STATES,
-        state_set: set_of(MODE_1_STATES),
-    },
-    Mode {
-        number: 2,
-        line: Line::V27ter,
-        width: 3,
-        register_length: 7,
-        step: 45,
-        near_taps: &[6],
-        states: MODE_2_STATES,
-        state_set: set_of(MODE_2_STATES),
-    },
-    Mode {
-        number: 3,
-        line: Line::V32,
-        width: 2,
-        register_length: 23,
-        step: 90,
-        near_taps: &[18, 5],
-        states: MODE_3_STATES,
-        state_set: set_of(MODE_3_STATES),
-    },
-    Mode {
-        number: 4,
-        line: Line::V32,
-        width: 4,
-        register_length: 23,
-        step: 90,
-        near_taps: &[18, 5],
-        states: MODE_4_STATES,
-        state_set: set_of(MODE_4_STATES),
-    },
+pub static MODES: [Mode; 6] = [
+    MODE_1,
+    MODE_2,
+    MODE_3,
+    MODE_4,
+    with_guard(MODE_1, 5),
+    with_guard(MODE_2, 6),
 ];
 
 /// Every mode with each of its roles.

@@ -1,12 +1,12 @@
-//! The receiver (document 01, "Receiver"; document 02, R-1 and R-3).
+//! The receiver (document 01, "Receiver"; document 02, R-1, R-3 and R-6).
 
 use crate::code;
 use crate::mode::Mode;
 use crate::point::{self, Decision, Point};
 use crate::reading::{self, Reading};
 use crate::refusal::{need, Refusal};
-use crate::scrambler::Scrambler;
-use crate::units::{BitCount, SquaredUnits, UnitIntervals};
+use crate::scrambler::{Register, Scrambler};
+use crate::units::{BitCount, GuardCount, SquaredUnits, UnitIntervals};
 
 /// A receiver's state. The fields hold any value; numbers 1, 2 and 4 refuse
 /// those out of range.
@@ -21,8 +21,21 @@ pub struct Receiver {
     pub register: u32,
     /// How many line bits the register holds.
     pub held: BitCount,
+    /// The guard's count, zero in a mode without it and while fewer than R are
+    /// held.
+    pub count: GuardCount,
     /// The unit intervals before the next event.
     pub place: UnitIntervals,
+}
+
+impl Receiver {
+    /// What its scrambler keeps between bits.
+    pub fn register_and_count(&self) -> Register {
+        Register {
+            bits: self.register,
+            count: self.count,
+        }
+    }
 }
 
 /// The answer to an accepted event. That to a decided point has the distance
@@ -44,7 +57,7 @@ pub enum Answer {
     Gap(UnitIntervals),
 }
 
-/// A fresh receiver: no reference, no line bits, place 0. Refuses by 1 and 2.
+/// A fresh receiver: no reference, no line bits, count and place 0. Refuses by 1 and 2.
 pub fn fresh(mode: u8, role: u8) -> Result<Receiver, Refusal> {
     Mode::find_with_role(mode, role)?;
     Ok(Receiver {
@@ -53,6 +66,7 @@ pub fn fresh(mode: u8, role: u8) -> Result<Receiver, Refusal> {
         reference: None,
         register: 0,
         held: BitCount(0),
+        count: GuardCount(0),
         place: UnitIntervals(0),
     })
 }
@@ -99,7 +113,7 @@ pub(crate) fn checked(state: &Receiver) -> Result<(&'static Mode, Scrambler), Re
         None => state.held == BitCount(0),
     };
     need(
-        reference_fits && scrambler.fits(state.register, state.held),
+        reference_fits && scrambler.fits(state.register_and_count(), state.held),
         Refusal::STATE_FIELD,
     )?;
     Ok((mode, scrambler))
@@ -111,6 +125,7 @@ fn pass_gap(state: Receiver, length: UnitIntervals) -> Result<(Answer, Receiver)
         reference: None,
         register: 0,
         held: BitCount(0),
+        count: GuardCount(0),
         place,
         ..state
     };
@@ -143,7 +158,7 @@ fn take_state(
     distance: SquaredUnits,
 ) -> Result<(Answer, Receiver), Refusal> {
     let place = state.place.plus(UnitIntervals(1));
-    let mut next = Receiver {
+    let next = Receiver {
         reference: Some(decided),
         place: place.ok_or(Refusal::TOO_LONG)?,
         ..state
@@ -152,19 +167,25 @@ fn take_state(
         return Ok((Answer::Reference { distance }, next));
     };
     let line = code::group(mode, reference, decided);
+    let (mut register, mut held) = (state.register_and_count(), state.held);
     let (mut plain, mut settled) = (0, 0);
     for position in (0..mode.width).rev() {
-        let bit = scrambler.descramble(next.register, next.held, line >> position & 1);
+        let bit = scrambler.descramble(register, held, line >> position & 1);
         plain = 2 * plain + bit.data.unwrap_or(0);
         settled = 2 * settled + u8::from(bit.data.is_some());
-        next.register = bit.register;
-        next.held = bit.held;
+        (register, held) = (bit.register, bit.held);
     }
     let answer = Answer::Bits {
         line,
         plain,
         settled,
         distance,
+    };
+    let next = Receiver {
+        register: register.bits,
+        held,
+        count: register.count,
+        ..next
     };
     Ok((answer, next))
 }

@@ -1,5 +1,5 @@
-//! Refusal numbers (document 01, "Refusals, by whose doing"; document 02, R-3 and
-//!
+//! Refusal numbers (document 01, "Refusals, by whose doing"; document 02, R-3, R-5
+//! and R-6).
 
 /// The number of a refused call.
 #[derive(Clone, Copy, PartialEq, Eq, Hash, Debug)]
@@ -11,7 +11,7 @@ pub struct Refusal(pub u8);
 pub const ORDER: [u8; 17] = [1, 2, 3, 4, 5, 6, 7, 18, 8, 9, 11, 12, 13, 14, 15, 16, 17];
 
 impl Refusal {
-    /// Mode not 1 to 4.
+    /// Mode not 1 to 6.
     pub const MODE: Refusal = Refusal(1);
     /// Role not one of the mode's.
     pub const ROLE: Refusal = Refusal(2);

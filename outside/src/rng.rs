@@ -41,7 +41,7 @@ impl Rng {
 
     /// A mode and one of its roles.
     pub fn mode_and_role(&mut self) -> (&'static Mode, u8) {
-        let mode = &MODES[self.below(4) as usize];
+        let mode = &MODES[self.below(MODES.len() as u64) as usize];
         (mode, self.below(mode.near_taps.len() as u64) as u8)
     }
 

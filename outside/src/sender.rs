@@ -1,12 +1,12 @@
-//! The sender (document 01, "Sender").
+//! The sender (document 01, "Sender"; document 02, R-6).
 
 use crate::code;
 use crate::mode::Mode;
 use crate::point;
 use crate::refusal::{need, Refusal};
-use crate::scrambler::Scrambler;
+use crate::scrambler::{Register, Scrambler};
 use crate::training::Training;
-use crate::units::BitCount;
+use crate::units::{BitCount, GuardCount};
 
 /// A sender's state. The fields hold any value; numbers 1, 2 and 4 refuse those
 /// out of range.
@@ -20,6 +20,18 @@ pub struct Sender {
     pub register: u32,
     /// How many line bits the register holds: R.
     pub held: BitCount,
+    /// The guard's count, zero in a mode without it.
+    pub count: GuardCount,
+}
+
+impl Sender {
+    /// What its scrambler keeps between bits.
+    pub fn register_and_count(&self) -> Register {
+        Register {
+            bits: self.register,
+            count: self.count,
+        }
+    }
 }
 
 /// Writes points one after another into lent numbers: re, then im.
@@ -58,8 +70,8 @@ impl<'a> PointWriter<'a> {
 /// Writes the training and hands back the state after it. Refuses by 1, 2, 3
 /// and 7.
 ///
-/// `length` is 0 (short) or 1 (long) in modes 1 and 2; in modes 3 and 4 it is
-/// the unit intervals of the third segment.
+/// `length` is 0 (short) or 1 (long) in the modes of V.27 ter; in those of V.32
+/// it is the unit intervals of the third segment.
 pub fn open(
     mode: u8,
     role: u8,
@@ -75,8 +87,9 @@ pub fn open(
         mode,
         role,
         reference,
-        register,
+        register: register.bits,
         held: scrambler.full(),
+        count: register.count,
     })
 }
 
@@ -95,8 +108,9 @@ pub fn send(
     let mut writer = PointWriter::new(mode, out, offset, input.len() / width)?;
     let mut next = state;
     for bits in input.chunks_exact(width) {
-        let (group, register) = scrambled_group(scrambler, next.register, bits.iter().copied());
-        next.register = register;
+        let bits = bits.iter().copied();
+        let (group, register) = scrambled_group(scrambler, next.register_and_count(), bits);
+        (next.register, next.count) = (register.bits, register.count);
         next.reference = code::next_state(mode, next.reference, group);
         writer.put(next.reference);
     }
@@ -108,7 +122,7 @@ pub(crate) fn checked(state: &Sender) -> Result<(&'static Mode, Scrambler), Refu
     let (mode, scrambler) = Mode::find_with_role(state.mode, state.role)?;
     let fits = mode.has_state(state.reference)
         && state.held == scrambler.full()
-        && scrambler.fits(state.register, state.held);
+        && scrambler.fits(state.register_and_count(), state.held);
     need(fits, Refusal::STATE_FIELD)?;
     Ok((mode, scrambler))
 }
@@ -117,9 +131,9 @@ pub(crate) fn checked(state: &Sender) -> Result<(&'static Mode, Scrambler), Refu
 /// register after them.
 pub fn scrambled_group(
     scrambler: Scrambler,
-    register: u32,
+    register: Register,
     bits: impl Iterator<Item = u8>,
-) -> (u8, u32) {
+) -> (u8, Register) {
     bits.fold((0, register), |(group, register), bit| {
         let (line, register) = scrambler.scramble(register, bit);
         (2 * group + line, register)

@@ -1,11 +1,13 @@
-//! Training sequences (document 01, "Sender"; V.27 ter, 2.5.1; V.32, 5.2).
+//! Training sequences (document 01, "Sender"; document 02, R-6; V.27 ter, 2.5.1;
+//! V.32, 5.2).
 
 use std::iter;
 
 use crate::code;
 use crate::mode::{Line, Mode, A, B, C, D};
-use crate::scrambler::Scrambler;
+use crate::scrambler::{Register, Scrambler};
 use crate::sender::{scrambled_group, PointWriter};
+use crate::units::GuardCount;
 
 /// The middle of V.27 ter training: 0 for no change of phase, 1 for 180°. Each
 /// is the first of three bits of ones scrambled from `SEGMENT_4_REGISTER`; the
@@ -50,10 +52,10 @@ pub const SEGMENT_4: [u8; 1074] = [
 /// The register before segment 4: 0 1 1 1 1 0 0, oldest first.
 pub const SEGMENT_4_REGISTER: u32 = 0b0111100;
 
-/// The register after segment 4 of either length, oldest first: the last seven
-/// pseudo-random bits in table 4. The lengths differ by 3 · 1016 bits, which is
-/// 24 of the sequence's periods of 127.
-pub const SEGMENT_5_REGISTER: u32 = 0b0010001;
+/// The last line bits of segment 4 of either length, oldest first: the last twelve
+/// pseudo-random bits in table 4, of which a register keeps R. The lengths differ
+/// by 3 · 1016 bits, which is 24 of the sequence's periods of 127.
+pub const SEGMENT_4_END: u32 = 0b110100010001;
 
 /// The scrambled ones that end V.27 ter training, in unit intervals.
 const SEGMENT_5_INTERVALS: usize = 8;
@@ -102,7 +104,12 @@ impl Training {
     }
 
     /// Writes the training; gives its last state and the register after it.
-    pub fn write(self, mode: &Mode, scrambler: Scrambler, writer: &mut PointWriter) -> (u8, u32) {
+    pub fn write(
+        self,
+        mode: &Mode,
+        scrambler: Scrambler,
+        writer: &mut PointWriter,
+    ) -> (u8, Register) {
         match self {
             Training::V27ter { reversals, changes } => {
                 let state = write_reversals(reversals, &SEGMENT_4[..changes], writer);
@@ -126,14 +133,24 @@ fn write_reversals(reversals: usize, middle: &[u8], writer: &mut PointWriter) ->
     state
 }
 
-/// Segment 5 of V.27 ter: scrambled ones, coded as data are.
+/// The register with some line bits before anything is counted.
+fn uncounted(bits: u32) -> Register {
+    Register {
+        bits,
+        count: GuardCount(0),
+    }
+}
+
+/// Segment 5 of V.27 ter: scrambled ones, coded as data are. The guard, in a mode
+/// that has it, begins here.
 fn write_segment_5(
     mode: &Mode,
     scrambler: Scrambler,
     reference: u8,
     writer: &mut PointWriter,
-) -> (u8, u32) {
-    let (mut state, mut register) = (reference, SEGMENT_5_REGISTER);
+) -> (u8, Register) {
+    let mut state = reference;
+    let mut register = uncounted(scrambler.kept(SEGMENT_4_END));
     for _ in 0..SEGMENT_5_INTERVALS {
         let (group, after) = scrambled_ones(scrambler, register, mode.width);
         register = after;
@@ -155,8 +172,12 @@ fn write_alternations(writer: &mut PointWriter) {
 
 /// Segment 3 of V.32: ones scrambled from a zero register, without the
 /// differential code.
-fn write_third_segment(scrambler: Scrambler, third: usize, writer: &mut PointWriter) -> (u8, u32) {
-    let (mut state, mut register) = (D, 0);
+fn write_third_segment(
+    scrambler: Scrambler,
+    third: usize,
+    writer: &mut PointWriter,
+) -> (u8, Register) {
+    let (mut state, mut register) = (D, uncounted(0));
     for interval in 0..third {
         let (dibit, after) = scrambled_ones(scrambler, register, 2);
         register = after;
@@ -171,6 +192,6 @@ fn write_third_segment(scrambler: Scrambler, third: usize, writer: &mut PointWri
     (state, register)
 }
 
-fn scrambled_ones(scrambler: Scrambler, register: u32, count: u32) -> (u8, u32) {
+fn scrambled_ones(scrambler: Scrambler, register: Register, count: u32) -> (u8, Register) {
     scrambled_group(scrambler, register, iter::repeat_n(1, count as usize))
 }

@@ -21,3 +21,8 @@ pub struct BitCount(pub u32);
 /// (document 02, R-1). It is no count of intervals or of bits.
 #[derive(Clone, Copy, PartialEq, Eq, PartialOrd, Ord, Hash, Debug)]
 pub struct SquaredUnits(pub u32);
+
+/// The guard's count over line bits (document 02, R-6). It is no count of held
+/// ones, and wider than its range, so that a handed-in state can be out of it.
+#[derive(Clone, Copy, PartialEq, Eq, PartialOrd, Ord, Hash, Debug)]
+pub struct GuardCount(pub u8);

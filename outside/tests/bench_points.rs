@@ -1,10 +1,12 @@
 //! The eight bench points of document 01, in its order.
 
 use outside::code;
-use outside::mode::{Mode, A, B, C, D};
+use outside::mode::{Line, Mode, A, B, C, D};
 use outside::point::{decide, Decision, V27TER_POINTS, V32_POINTS};
+use outside::scrambler::Register;
 use outside::sender;
-use outside::training::{SEGMENT_4, SEGMENT_4_REGISTER, SEGMENT_5_REGISTER};
+use outside::training::{SEGMENT_4, SEGMENT_4_END, SEGMENT_4_REGISTER};
+use outside::units::GuardCount;
 
 fn mode(number: u8) -> &'static Mode {
     Mode::find(number).unwrap()
@@ -21,10 +23,9 @@ fn state(number: u8, re: i16, im: i16) -> u8 {
 fn training(number: u8, role: u8, length: u32) -> Vec<u8> {
     let mut out = vec![i16::MIN; 2 * 9000];
     sender::open(number, role, length, &mut out, 0).unwrap();
-    let points: &[_] = if number <= 2 {
-        &V27TER_POINTS
-    } else {
-        &V32_POINTS
+    let points: &[_] = match mode(number).line {
+        Line::V27ter => &V27TER_POINTS,
+        Line::V32 => &V32_POINTS,
     };
     out.chunks(2)
         .take_while(|numbers| numbers[0] != i16::MIN)
@@ -63,12 +64,9 @@ fn point_4_mode_2_edge() {
 
 #[test]
 fn point_5_middle_training() {
-    for (number, length, reversals, changes) in [
-        (1, 0, 14, 58),
-        (2, 0, 14, 58),
-        (1, 1, 50, 1074),
-        (2, 1, 50, 1074),
-    ] {
+    let lengths = [(0, 14, 58), (1, 50, 1074)];
+    let trainings = [1, 2, 5, 6].map(|number| lengths.map(|length| (number, length)));
+    for (number, (length, reversals, changes)) in trainings.into_iter().flatten() {
         let states = training(number, 0, length);
         assert_eq!(states.len(), reversals + changes + 8);
         let reversed = [4, 0].into_iter().cycle().take(reversals);
@@ -89,7 +87,10 @@ fn point_6_eight_points_after_it() {
     // The phase changes beside them in table 4.
     let tribit_changes = [270, 225, 315, 90, 45, 45, 180, 180];
     let dibit_changes = [270, 90, 270, 270, 270, 270, 0, 0];
-    for (number, groups, changes) in [(2, tribits, tribit_changes), (1, dibits, dibit_changes)] {
+    // The guard has nothing to invert here: fewer than 33 line bits are counted over.
+    let modes = [(2, tribits, tribit_changes), (1, dibits, dibit_changes)];
+    let guarded = modes.map(|(number, groups, changes)| (number + 4, groups, changes));
+    for (number, groups, changes) in modes.into_iter().chain(guarded) {
         for length in [0, 1] {
             let states = training(number, 0, length);
             let pairs = states[states.len() - 9..].windows(2);
@@ -147,33 +148,39 @@ fn point_8_mode_4_code() {
     assert_eq!(code::next_state(mode(4), 0b1100, 0b0000), 0b1000);
 }
 
+/// Ones scrambled from the register before segment 4, without a guard.
+fn segment_4_bits() -> impl Iterator<Item = u8> {
+    let (_, scrambler) = Mode::find_with_role(1, 0).unwrap();
+    let mut register = Register {
+        bits: SEGMENT_4_REGISTER,
+        count: GuardCount(0),
+    };
+    std::iter::from_fn(move || {
+        let (line, after) = scrambler.scramble(register, 1);
+        register = after;
+        Some(line)
+    })
+}
+
 #[test]
 fn segment_4_table_is_every_third_bit_of_scrambled_ones() {
-    let (_, scrambler) = Mode::find_with_role(1, 0).unwrap();
-    let mut register = SEGMENT_4_REGISTER;
-    for (interval, &change) in SEGMENT_4.iter().enumerate() {
-        if interval == 58 {
-            assert_eq!(register, SEGMENT_5_REGISTER);
-        }
-        for place in 0..3 {
-            let (line, after) = scrambler.scramble(register, 1);
-            register = after;
-            assert!(place > 0 || line == change, "interval {interval}");
-        }
+    let third = segment_4_bits().step_by(3);
+    assert!(third.take(SEGMENT_4.len()).eq(SEGMENT_4));
+}
+
+#[test]
+fn segment_4_of_either_length_ends_with_the_same_bits() {
+    for changes in [58, 1074] {
+        let last = segment_4_bits().take(3 * changes).skip(3 * changes - 12);
+        let end = last.fold(0, |bits, bit| bits << 1 | u32::from(bit));
+        assert_eq!(end, SEGMENT_4_END);
     }
-    assert_eq!(register, SEGMENT_5_REGISTER);
 }
 
 #[test]
 fn segment_4_bits_are_those_of_table_4() {
-    let (_, scrambler) = Mode::find_with_role(2, 0).unwrap();
-    let mut register = SEGMENT_4_REGISTER;
-    let mut text = String::new();
-    for _ in 0..3 * 58 {
-        let (line, after) = scrambler.scramble(register, 1);
-        register = after;
-        text.push(char::from(b'0' + line));
-    }
+    let digits = segment_4_bits().map(|bit| char::from(b'0' + bit));
+    let text: String = digits.take(3 * 58).collect();
     assert!(text.starts_with("011101101100100101001"));
     assert!(text.ends_with("110100010001"));
 }

@@ -89,7 +89,7 @@ fn only_the_origin_is_no_state() {
 #[test]
 fn phase_decisions_agree_with_angles() {
     let mut rng = Rng::new(2);
-    for mode in &MODES[..3] {
+    for mode in MODES.iter().filter(|mode| mode.number != 4) {
         for _ in 0..100_000 {
             let (re, im) = (rng.next_u64() as i16, rng.next_u64() as i16);
             let angle = f64::from(im).atan2(f64::from(re)).to_degrees();
@@ -229,6 +229,42 @@ fn the_code_and_its_inverse_agree() {
     }
 }
 
+/// points, states, decisions and code of the two modes with the guard are
+/// those of the modes without.
+#[test]
+fn modes_5_and_6_are_modes_1_and_2_but_for_the_guard() {
+    let mut rng = Rng::new(6);
+    for (guarded, mode) in [(&MODES[4], &MODES[0]), (&MODES[5], &MODES[1])] {
+        assert_eq!(guarded.unguarded, mode.number);
+        assert_eq!((guarded.guard, mode.guard), (true, false));
+        assert_eq!((guarded.register_length, mode.register_length), (12, 7));
+        let kept = |mode: &Mode| {
+            (
+                mode.width,
+                mode.step,
+                mode.near_taps,
+                mode.far_tap,
+                mode.states,
+            )
+        };
+        assert_eq!(kept(guarded), kept(mode));
+        for _ in 0..10_000 {
+            let number = rng.next_u64();
+            let (re, im) = (number as i16, (number >> 16) as i16);
+            assert_eq!(decide(guarded, re, im), decide(mode, re, im));
+        }
+        for &reference in mode.states {
+            assert_eq!(sent(guarded, reference), sent(mode, reference));
+            assert_eq!(turn_state(guarded, reference), turn_state(mode, reference));
+            for group in 0..1 << mode.width {
+                let state = code::next_state(mode, reference, group);
+                assert_eq!(code::next_state(guarded, reference, group), state);
+                assert_eq!(code::group(guarded, reference, state), group);
+            }
+        }
+    }
+}
+
 #[test]
 fn turning_both_states_keeps_the_group() {
     for mode in &MODES {
@@ -255,7 +291,9 @@ fn phase_changes_are_those_of_document_01() {
         ("100", 270),
         ("101", 315),
     ];
-    for (mode, changes) in [(&MODES[0], &mode_1[..]), (&MODES[1], &mode_2[..])] {
+    let of_v27ter = MODES.iter().filter(|mode| mode.line == Line::V27ter);
+    for mode in of_v27ter {
+        let changes = [&mode_1[..], &mode_2[..]][mode.width as usize - 2];
         for &(bits, change) in changes {
             let group = u8::from_str_radix(bits, 2).unwrap();
             for &reference in mode.states {

@@ -1,6 +1,7 @@
 //! Listings.
 
 use outside::listing::list;
+use outside::mode::MODES;
 use outside::rng::Rng;
 use outside::store::{append_lost, append_point, make};
 
@@ -73,9 +74,9 @@ fn a_refused_store_has_one_line() {
 #[test]
 fn a_listing_has_a_line_for_each_event_and_two() {
     let mut rng = Rng::new(9);
-    for mode in 1..=4 {
+    for mode in &MODES {
         let mut store = vec![0xee; 100 * 32];
-        make(&mut store, mode, 0).unwrap();
+        make(&mut store, mode.number, 0).unwrap();
         let (mut events, mut total) = (0, 0);
         for _ in 0..90 {
             if rng.below(4) == 0 {
@@ -91,7 +92,7 @@ fn a_listing_has_a_line_for_each_event_and_two() {
         }
         let listing = text(&store);
         assert_eq!(listing.lines().count(), events + 2);
-        let first = format!("track mode {mode} role 0 total {total}");
+        let first = format!("track mode {} role 0 total {total}", mode.number);
         assert_eq!(listing.lines().next(), Some(first.as_str()));
     }
 }

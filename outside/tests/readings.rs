@@ -11,7 +11,7 @@ use outside::receiver::{
 use outside::refusal::{Refusal, ORDER};
 use outside::rng::Rng;
 use outside::tuned;
-use outside::units::{BitCount, SquaredUnits, UnitIntervals};
+use outside::units::{BitCount, GuardCount, SquaredUnits, UnitIntervals};
 
 /// So many units in levels; exact for whole numbers and halves up to 8388608.
 fn level(units: f64) -> f32 {
@@ -153,6 +153,7 @@ fn holding() -> Receiver {
         reference: Some(0b1100),
         register: 0b1011,
         held: BitCount(9),
+        count: GuardCount(0),
         place: UnitIntervals(7),
     }
 }

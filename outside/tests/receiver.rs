@@ -2,7 +2,7 @@
 
 use outside::receiver::{fresh, receive_gap, receive_point, receive_points, Answer, Receiver};
 use outside::refusal::Refusal;
-use outside::units::{BitCount, SquaredUnits, UnitIntervals};
+use outside::units::{BitCount, GuardCount, SquaredUnits, UnitIntervals};
 
 /// The answers to a sent point, which has the distance 0.
 const REFERENCE: Answer = Answer::Reference {
@@ -80,6 +80,7 @@ fn handed_in_line_bits_count_as_come_before() {
         reference: Some(0b1100),
         register: 0b10000,
         held: BitCount(22),
+        count: GuardCount(0),
         place: UnitIntervals(7),
     };
     // Line bits 0101; the bits 5 back are 1, 0, 0, 0, those 23 back are 0.
@@ -107,6 +108,7 @@ fn the_two_roles_tap_18_and_5_back() {
                 reference: Some(0b0001),
                 register: 1 << (back - 1),
                 held: BitCount(23),
+                count: GuardCount(0),
                 place: UnitIntervals(0),
             };
             // The same state again: line bits 01.
@@ -131,11 +133,12 @@ fn refusals(state: Receiver, re: i16, im: i16, n: u32) -> (u8, u8) {
 #[test]
 fn the_lowest_number_is_given() {
     let mut state = Receiver {
-        mode: 5,
+        mode: 7,
         role: 2,
         reference: Some(16),
         register: 0,
         held: BitCount(0),
+        count: GuardCount(0),
         place: UnitIntervals(u32::MAX),
     };
     assert_eq!(refusals(state, 16385, 0, 0), (1, 1));
@@ -164,6 +167,7 @@ fn state_fields_out_of_range_are_number_4() {
         reference: Some(2),
         register: 0b11,
         held: BitCount(2),
+        count: GuardCount(0),
         place: UnitIntervals(9),
     };
     assert_eq!(refusals(good, 1, 1, 1), (0, 0));
@@ -189,8 +193,8 @@ fn fresh_refuses_by_1_and_2() {
     for mode in 0..=255 {
         for role in 0..=255 {
             let expected = match (mode, role) {
-                (1..=2, 0) | (3..=4, 0..=1) => None,
-                (1..=4, _) => Some(Refusal(2)),
+                (1 | 2 | 5 | 6, 0) | (3 | 4, 0..=1) => None,
+                (1..=6, _) => Some(Refusal(2)),
                 _ => Some(Refusal(1)),
             };
             assert_eq!(fresh(mode, role).err(), expected);
@@ -229,7 +233,7 @@ fn a_block_is_taken_whole_or_not_at_all() {
     start.place = UnitIntervals(u32::MAX - 1);
     assert_eq!(refused(start, &[1, 0, 0, 1]), Err(Refusal(16)));
     assert_eq!(refused(start, &[1, 0, -16385, 1]), Err(Refusal(8)));
-    start.mode = 5;
+    start.mode = 7;
     assert_eq!(refused(start, &[]), Err(Refusal(1)));
 }
 

@@ -1,16 +1,17 @@
 //! Sending, its refusals, and what receivers make of the points.
 
-use outside::mode::{Mode, MODES};
+use outside::assurance::first_assured;
+use outside::mode::{Line, Mode, MODES};
 use outside::point::{turn_state, Decision, Point};
 use outside::receiver::{fresh, receive_point, Answer};
 use outside::refusal::Refusal;
 use outside::rng::Rng;
 use outside::sender::{open, send, Sender};
 use outside::training::Training;
-use outside::units::BitCount;
+use outside::units::{BitCount, GuardCount};
 use outside::{code, point};
 
-const LENGTHS: [(u8, u8, u32); 8] = [
+const LENGTHS: [(u8, u8, u32); 12] = [
     (1, 0, 0),
     (1, 0, 1),
     (2, 0, 0),
@@ -19,6 +20,10 @@ const LENGTHS: [(u8, u8, u32); 8] = [
     (3, 1, 8192),
     (4, 0, 4000),
     (4, 1, 1280),
+    (5, 0, 0),
+    (5, 0, 1),
+    (6, 0, 0),
+    (6, 0, 1),
 ];
 
 fn opened(mode: u8, role: u8, length: u32) -> (Sender, Vec<i16>) {
@@ -57,15 +62,18 @@ fn received(mode: u8, role: u8, points: &[i16]) -> Vec<(u8, Option<u8>)> {
 fn data_come_back_after_training() {
     let mut rng = Rng::new(4);
     for (mode, role, length) in LENGTHS {
-        let width = Mode::find(mode).unwrap().width as usize;
+        let parameters = Mode::find(mode).unwrap();
         let (state, mut points) = opened(mode, role, length);
-        let data = rng.bits(500 * width);
+        let data = rng.bits(500 * parameters.width as usize);
         let mut out = vec![0; 1000];
         send(state, &data, &mut out, 0).unwrap();
         points.extend(out);
         let bits = received(mode, role, &points);
         // V.32 training has no differential code: R line bits of data are needed.
-        let start = if mode <= 2 { 0 } else { 23 };
+        let start = match parameters.line {
+            Line::V27ter => 0,
+            Line::V32 => 23,
+        };
         let tail = &bits[bits.len() - data.len() + start..];
         let plain: Vec<u8> = tail.iter().map(|bit| bit.1.unwrap()).collect();
         assert_eq!(plain, data[start..], "mode {mode} role {role}");
@@ -83,9 +91,12 @@ fn data_points_alone_settle_after_r_line_bits() {
         let mut out = vec![0; 200];
         send(state, &data, &mut out, 0).unwrap();
         let bits = received(mode, role, &out);
+        let line: Vec<u8> = bits.iter().map(|bit| bit.0).collect();
+        let assured = first_assured(parameters, &line).unwrap();
         for (k, &(_, plain)) in bits.iter().enumerate() {
-            let expected = (k >= unsettled as usize).then_some(data[width + k]);
-            assert_eq!(plain, expected, "mode {mode} role {role} bit {k}");
+            let what = format!("mode {mode} role {role} bit {k}");
+            assert_eq!(plain.is_some(), k >= unsettled as usize, "{what}");
+            assert!(k < assured || plain == Some(data[width + k]), "{what}");
         }
     }
 }
@@ -142,7 +153,7 @@ fn the_first_data_point_follows_the_training() {
         let sent = point::sent(parameters, state.reference);
         assert_eq!(last, [sent.re, sent.im]);
         assert_eq!(state.held, BitCount(parameters.register_length));
-        let (mut group, mut register) = (0, state.register);
+        let (mut group, mut register) = (0, state.register_and_count());
         for _ in 0..parameters.width {
             let (line, after) = scrambler.scramble(register, 0);
             (group, register) = (2 * group + line, after);
@@ -150,7 +161,7 @@ fn the_first_data_point_follows_the_training() {
         let mut out = [0; 2];
         let data = vec![0; parameters.width as usize];
         let next = send(state, &data, &mut out, 0).unwrap();
-        assert_eq!(next.register, register);
+        assert_eq!(next.register_and_count(), register);
         let reached = code::next_state(parameters, state.reference, group);
         assert_eq!(next.reference, reached);
         let sent = point::sent(parameters, reached);
@@ -179,10 +190,12 @@ fn open_gives_the_lowest_number() {
         result.unwrap_err()
     };
     assert_eq!(number(0, 9, 9, 999), Refusal(1));
-    assert_eq!(number(5, 9, 9, 999), Refusal(1));
+    assert_eq!(number(7, 9, 9, 999), Refusal(1));
     assert_eq!(number(1, 1, 9, 999), Refusal(2));
     assert_eq!(number(4, 2, 9, 999), Refusal(2));
+    assert_eq!(number(6, 1, 9, 999), Refusal(2));
     assert_eq!(number(2, 0, 2, 999), Refusal(3));
+    assert_eq!(number(5, 0, 1280, 999), Refusal(3));
     assert_eq!(number(3, 0, 1, 999), Refusal(3));
     assert_eq!(number(4, 1, 1279, 999), Refusal(3));
     assert_eq!(number(4, 1, 8193, 999), Refusal(3));
@@ -202,6 +215,7 @@ fn send_gives_the_lowest_number() {
         reference: 3,
         register: 1 << 23,
         held: BitCount(22),
+        count: GuardCount(0),
     };
     let mut out = [7; 4];
     let mut number = |state, input: &[u8], offset| {
@@ -240,6 +254,7 @@ fn every_state_of_a_mode_is_sent() {
             reference: mode.states[0],
             register: 1,
             held: BitCount(mode.register_length),
+            count: GuardCount(0),
         };
         let mut out = vec![0; 2000];
         let data = rng.bits(1000 * mode.width as usize);

@@ -38,7 +38,7 @@ fn number_by_text(store: &[u8]) -> u8 {
         return 11;
     }
     let role_known = match store[4] {
-        1 | 2 => store[5] == 0,
+        1 | 2 | 5 | 6 => store[5] == 0,
         3 | 4 => store[5] <= 1,
         _ => false,
     };
@@ -87,7 +87,10 @@ fn a_made_store_is_zero_but_for_record_0() {
 #[test]
 fn make_refuses_by_1_2_and_11() {
     let mut store = vec![7; 33];
-    assert_eq!(number(make(&mut store, 5, 9)), 1);
+    assert_eq!(number(make(&mut store, 7, 9)), 1);
+    assert_eq!(number(make(&mut store, 0, 9)), 1);
+    assert_eq!(number(make(&mut store, 6, 1)), 2);
+    assert_eq!(number(make(&mut store, 6, 0)), 11);
     assert_eq!(number(make(&mut store, 2, 1)), 2);
     assert_eq!(number(make(&mut store, 2, 0)), 11);
     assert_eq!(store, [7; 33]);
@@ -193,11 +196,12 @@ fn an_append_gives_the_lowest_number() {
 }
 
 /// A byte of the store in the test below, another value, the number it meets.
-const DAMAGES: [(usize, u8, u8); 35] = [
+const DAMAGES: [(usize, u8, u8); 36] = [
     (0, b'W', 12),
     (3, b'2', 12),
     (4, 0, 12),
-    (4, 5, 12),
+    (4, 7, 12),
+    (4, 6, 0),
     (5, 1, 12),
     (12, 1, 12),
     (31, 1, 12),
@@ -254,7 +258,7 @@ fn damaged_stores_are_refused_as_the_text_says() {
     let mut seen = HashSet::new();
     for _ in 0..60_000 {
         let records = rng.between(2, 9) as usize;
-        let mut store = made(records, rng.between(1, 4) as u8, 0);
+        let mut store = made(records, rng.mode_and_role().0.number, 0);
         for _ in 0..rng.below(20) {
             let lost = rng.below(5) as u32;
             let _ = match lost {

@@ -2,6 +2,7 @@
 
 use outside::limits;
 use outside::listing::list;
+use outside::mode::MODES;
 use outside::refusal::Refusal;
 use outside::rng::Rng;
 use outside::store::{append_lost, append_point, append_points, make, Track};
@@ -76,8 +77,8 @@ fn the_example_of_document_02() {
 
 #[test]
 fn an_empty_track_has_nothing() {
-    for mode in 1..=4 {
-        assert_eq!(checked(&made(2, mode)), Sums::default());
+    for mode in &MODES {
+        assert_eq!(checked(&made(2, mode.number)), Sums::default());
     }
 }
 
@@ -95,8 +96,8 @@ fn neighbouring_lost_records_are_gaps_of_their_own() {
 
 #[test]
 fn origin_points_are_gaps_of_one_in_all_modes() {
-    for mode in 1..=4 {
-        let mut store = made(4, mode);
+    for mode in &MODES {
+        let mut store = made(4, mode.number);
         append_point(&mut store, 0, 0).unwrap();
         assert_eq!(Ok(checked(&store)), of(0, 1, 1));
         // Beside the origin, on either axis, a point is decided.

@@ -1,12 +1,14 @@
 //! The tuned block receiver gives what the plain one gives.
 
+use outside::code;
 use outside::mode::{modes_and_roles, Mode, MODES};
+use outside::patterns;
 use outside::point;
 use outside::receiver::{self, Receiver};
 use outside::refusal::Refusal;
 use outside::rng::Rng;
 use outside::tuned;
-use outside::units::{BitCount, UnitIntervals};
+use outside::units::{BitCount, GuardCount, UnitIntervals};
 
 /// Bytes and numbers beyond what a call writes, to show what it leaves.
 const UNWRITTEN: u8 = 0xa5;
@@ -47,12 +49,15 @@ fn accepted(state: Receiver, points: &[i16]) -> Receiver {
     receive(state, points, (count + 1, count + 3, count + 2)).unwrap()
 }
 
-/// A receiver with a reference and so many line bits.
+/// A receiver with a reference and so many line bits, and any count where a full
+/// register has one.
 fn holding(rng: &mut Rng, mode: &Mode, role: u8, held: u32) -> Receiver {
+    let counts = mode.guard && held == mode.register_length;
     Receiver {
         reference: Some(rng.pick(mode.states)),
         register: rng.below(1 << held) as u32,
         held: BitCount(held),
+        count: GuardCount(if counts { rng.below(34) as u8 } else { 0 }),
         place: UnitIntervals(rng.below(1 << 31) as u32),
         ..receiver::fresh(mode.number, role).unwrap()
     }
@@ -156,6 +161,31 @@ fn any_count_of_held_line_bits() {
     }
 }
 
+/// Points of line bits that repeat, for which the guard inverts a bit now and then,
+/// with a few at the origin.
+#[test]
+fn lists_of_repeated_patterns() {
+    let mut rng = Rng::new(4);
+    for (mode, role) in modes_and_roles() {
+        for _ in 0..60 {
+            let mut state = holding(&mut rng, mode, role, mode.register_length);
+            let mut reference = mode.states[0];
+            for size in [1, 3, 15, 16, 17, 90, 128, 129, 300] {
+                let line = patterns::repeated(&mut rng, size * mode.width as usize);
+                let mut points = Vec::new();
+                for bits in line.chunks(mode.width as usize) {
+                    let group = bits.iter().fold(0, |group, bit| 2 * group + bit);
+                    reference = code::next_state(mode, reference, group);
+                    let sent = point::sent(mode, reference);
+                    let lost = rng.below(150) == 0;
+                    points.extend(if lost { [0, 0] } else { [sent.re, sent.im] });
+                }
+                state = accepted(state, &points);
+            }
+        }
+    }
+}
+
 /// Puts the fault of a number into a call.
 fn put_fault(
     number: u8,
@@ -164,7 +194,7 @@ fn put_fault(
     lent: &mut (usize, usize, usize),
 ) {
     match number {
-        1 => state.mode = 5,
+        1 => state.mode = 7,
         2 => state.role = 2,
         4 => state.register = 1 << 30,
         7 => lent.2 -= 1,
@@ -215,7 +245,7 @@ fn refusals_at_their_limits() {
     assert_eq!(refused(late, &[5; 6], (3, 3, 3)), Some(Refusal(16)));
     for reference in 0..=255 {
         let reference = Some(reference);
-        for mode in 0..=5 {
+        for mode in 0..=7 {
             let state = Receiver {
                 mode,
                 reference,

@@ -1,11 +1,12 @@
 //! The tuned sender gives what the plain one gives.
 
 use outside::mode::{modes_and_roles, Mode};
+use outside::patterns;
 use outside::refusal::Refusal;
 use outside::rng::Rng;
 use outside::sender::{self, Sender};
 use outside::tuned;
-use outside::units::BitCount;
+use outside::units::{BitCount, GuardCount};
 
 /// A lent number before a call, to show what a call leaves.
 const UNWRITTEN: i16 = 0x5a5a;
@@ -29,6 +30,7 @@ fn random_state(rng: &mut Rng, mode: &Mode, role: u8) -> Sender {
         reference: rng.pick(mode.states),
         register: rng.below(1 << mode.register_length) as u32,
         held: BitCount(mode.register_length),
+        count: GuardCount(if mode.guard { rng.below(34) as u8 } else { 0 }),
     }
 }
 
@@ -43,6 +45,23 @@ fn lists_of_calls_of_any_size() {
                 let offset = rng.below(5) as usize;
                 let lent = offset + 2 * points + rng.below(4) as usize;
                 state = send(state, &input, lent, offset).unwrap();
+            }
+        }
+    }
+}
+
+/// Data for which the line repeats, or would without a guard.
+#[test]
+fn lists_of_calls_with_repeated_patterns() {
+    let mut rng = Rng::new(3);
+    for (mode, role) in modes_and_roles() {
+        for _ in 0..60 {
+            let mut state = random_state(&mut rng, mode, role);
+            for points in [1, 2, 3, 17, 90, 300] {
+                let line = patterns::repeated(&mut rng, points * mode.width as usize);
+                let data_for = rng.pick(&[patterns::data_for, patterns::data_without_guard]);
+                let input = data_for(&state, &line);
+                state = send(state, &input, 2 * points, 0).unwrap();
             }
         }
     }

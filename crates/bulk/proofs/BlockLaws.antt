@@ -458,36 +458,36 @@ module _ (s : Receiver) (b : Parts) (zs : List ℤ) (j : ℕ) (t : Receiver) (c 
 -- WHERE ALL DATA BITS ARE SETTLED
 
 -- a receiver with a reference and a full register
-pub is-settled : (s : Receiver) (x full held : ℕ) → s .reference ≡ some x → full ≡ capacity (s .mode) → held ≡ full → held ≡ s .line .held .0 → s ≡ settledAt s x (s .line .bits) 0
+pub is-settled : (s : Receiver) (x full held : ℕ) → s .reference ≡ some x → full ≡ capacity (s .mode) → held ≡ full → held ≡ s .line .held .0 → s ≡ settledAt s x (s .line .bits) (s .line .count .0) 0
 is-settled s x full held er ef eh el =
     let h : s .line .held .0 ≡ capacity (s .mode) = sym el ∙ eh ∙ ef in
     let e : s .place .0 ≡ s .place .0 + 0 = omega arith in
-    λ i. receiver (s .mode) (s .role) (er i) (register (s .line .bits) (h i)) (e i)
+    λ i. receiver (s .mode) (s .role) (er i) (register (s .line .bits) (h i) (s .line .count .0)) (e i)
 
 -- one point more: the step is the receiver's, and the register stays full
-module _ (s : Receiver) (x n i : ℕ) (re im : ℤ) where
+module _ (s : Receiver) (x n c i : ℕ) (re im : ℤ) where
   abbrev now-at : Receiver
-  now-at = settledAt s x n i
+  now-at = settledAt s x n c i
 
   pub settled-step : (ring rows : List ℕ) (origin : Bool) (y g : ℕ) (d : Descrambled) (u : SquaredUnits) → refusal now-at (point (at re im)) ≡ 0 → origin ≡ isOrigin (at re im) → origin ≡ false
       → ring ≡ ringOf (s .mode) → Rows (s .mode) rows → y ≡ getD ring (ringIndex (s .mode) re im) 0 → g ≡ withRow (s .mode) (getD rows (rowIndex (s .mode) x y) 0) y
-      → d ≡ descrambled (s .mode) (s .role) (register n (capacity (s .mode))) g → u .0 ≡ distance (s .mode) y (at re im)
-      → _≡_ {A = Step} (record { line = g; plain = d .plain; distance = u; next = settledAt s y (d .next .bits) (i + 1) }) (step (answer now-at (point (at re im))) (next now-at (point (at re im))))
+      → d ≡ descrambled (s .mode) (s .role) (register n (capacity (s .mode)) c) g → u .0 ≡ distance (s .mode) y (at re im)
+      → _≡_ {A = Step} (record { line = g; plain = d .plain; distance = u; next = settledAt s y (d .next .bits) (d .next .count .0) (i + 1) }) (step (answer now-at (point (at re im))) (next now-at (point (at re im))))
   settled-step ring rows origin y g d u z eo off er rs ey eg ed eu =
-      let full = after-full (s .mode) (s .role) n g in
-      let none-unsettled : d .unsettled .0 ≡ 0 = ap (λ (c : Descrambled). c .unsettled .0) ed ∙ full .0 in
-      let held : capacity (s .mode) ≡ d .next .held .0 = sym (ap (λ (c : Descrambled). c .next .held .0) ed ∙ full .1) in
+      let full = after-full (s .mode) (s .role) n c g in
+      let none-unsettled : d .unsettled .0 ≡ 0 = ap (λ (b : Descrambled). b .unsettled .0) ed ∙ full .0 in
+      let held : capacity (s .mode) ≡ d .next .held .0 = sym (ap (λ (b : Descrambled). b .next .held .0) ed ∙ full .1) in
       let plain : d .plain ≡ 16 * d .unsettled .0 + d .plain = omega arith in
       let place : s .place .0 + (i + 1) ≡ s .place .0 + i + 1 = omega arith in
       let later : Receiver = receiver (s .mode) (s .role) (some y) (d .next) (s .place .0 + i + 1) in
-      let same : settledAt s y (d .next .bits) (i + 1) ≡ later = λ k. receiver (s .mode) (s .role) (some y) (register (d .next .bits) (held k)) (place k) in
+      let same : settledAt s y (d .next .bits) (d .next .count .0) (i + 1) ≡ later = λ k. receiver (s .mode) (s .role) (some y) (register (d .next .bits) (held k) (d .next .count .0)) (place k) in
       hear-state now-at re im z origin eo ring y u _ off er ey eu
       ((λ k. record { line = g; plain = plain k; distance = u; next = same k }) ∙ take-bits now-at later y u (some x) x g d rows refl rs eg ed refl)
 
-pub settled-start : (s : Receiver) (b : Parts) (zs : List ℤ) (j x : ℕ) → s ≡ settledAt s x (s .line .bits) 0 → Hearing s b zs j s b j
-    → Hearing s b zs j (settledAt s x (s .line .bits) (j - j)) b j
+pub settled-start : (s : Receiver) (b : Parts) (zs : List ℤ) (j x : ℕ) → s ≡ settledAt s x (s .line .bits) (s .line .count .0) 0 → Hearing s b zs j s b j
+    → Hearing s b zs j (settledAt s x (s .line .bits) (s .line .count .0) (j - j)) b j
 settled-start s b zs j x e h =
-    subst (λ (t : Receiver). Hearing s b zs j t b j) (e ∙ ap (settledAt s x (s .line .bits)) (let z : 0 ≡ j - j = omega arith in z)) h
+    subst (λ (t : Receiver). Hearing s b zs j t b j) (e ∙ ap (settledAt s x (s .line .bits) (s .line .count .0)) (let z : 0 ≡ j - j = omega arith in z)) h
 
 -- the place where they end is in range
 pub settled-room : (s t : Receiver) (b c : Parts) (zs : List ℤ) (j k : ℕ) → s .place .0 ≤ 4294967295 → EachAccepted s (map point (left zs j)) → Hearing s b zs j t c k → s .place .0 + (k - j) ≤ 4294967295
@@ -499,14 +499,14 @@ pub from-constellation : (m y : ℕ) (re im : ℤ) (points : List Point) (n : �
     → n ≡ squaredDistance (at re im) (getD points (y % 16) (at (pos 0) (pos 0))) % 4294967296 → n ≡ distance m y (at re im)
 from-constellation m y re im points n fr fi t q = sent-law m y re im _ n fr fi (t .at (y % 16) (omega arith) ∙ sent-round m y) q
 
-pub settled-again : (s : Receiver) (b c c′ : Parts) (zs : List ℤ) (j k x n : ℕ) → Hearing s b zs j (settledAt s x n (k - j)) c k → k < length zs / 2
+pub settled-again : (s : Receiver) (b c c′ : Parts) (zs : List ℤ) (j k x n count : ℕ) → Hearing s b zs j (settledAt s x n count (k - j)) c k → k < length zs / 2
     → (re im : ℤ) → re ≡ getD zs (2 * k) (pos 0) → im ≡ getD zs (2 * k + 1) (pos 0) → (ring rows : List ℕ) (origin : Bool) (y g : ℕ) (d : Descrambled) (u : SquaredUnits)
     → ring ≡ ringOf (s .mode) → Rows (s .mode) rows → origin ≡ isOrigin (at re im) → origin ≡ false → y ≡ getD ring (ringIndex (s .mode) re im) 0
-    → g ≡ withRow (s .mode) (getD rows (rowIndex (s .mode) x y) 0) y → d ≡ descrambled (s .mode) (s .role) (register n (capacity (s .mode))) g → u .0 ≡ distance (s .mode) y (at (getD zs (2 * k) (pos 0)) (getD zs (2 * k + 1) (pos 0)))
-    → c′ ≡ parts (set (c .line) k g) (set (c .plain) k (d .plain)) (set (c .distance) k (u .0)) → Hearing s b zs j (settledAt s y (d .next .bits) (k + 1 - j)) c′ (k + 1)
-settled-again s b c c′ zs j k x n h i re im ere eim ring rows origin y g d u er rs eo off ey eg ed eu ec =
-    let t : Receiver = settledAt s x n (k - j) in
-    let e = settled-step s x n (k - j) (getD zs (2 * k) (pos 0)) (getD zs (2 * k + 1) (pos 0)) ring rows origin y g d u (hearing-free s b zs j t c k h i) (rw (ere, eim) at eo) off er rs
+    → g ≡ withRow (s .mode) (getD rows (rowIndex (s .mode) x y) 0) y → d ≡ descrambled (s .mode) (s .role) (register n (capacity (s .mode)) count) g → u .0 ≡ distance (s .mode) y (at (getD zs (2 * k) (pos 0)) (getD zs (2 * k + 1) (pos 0)))
+    → c′ ≡ parts (set (c .line) k g) (set (c .plain) k (d .plain)) (set (c .distance) k (u .0)) → Hearing s b zs j (settledAt s y (d .next .bits) (d .next .count .0) (k + 1 - j)) c′ (k + 1)
+settled-again s b c c′ zs j k x n count h i re im ere eim ring rows origin y g d u er rs eo off ey eg ed eu ec =
+    let t : Receiver = settledAt s x n count (k - j) in
+    let e = settled-step s x n count (k - j) (getD zs (2 * k) (pos 0)) (getD zs (2 * k + 1) (pos 0)) ring rows origin y g d u (hearing-free s b zs j t c k h i) (rw (ere, eim) at eo) off er rs
     (rw (ere, eim) at ey) eg ed eu in
-    subst (λ (m : ℕ). Hearing s b zs j (settledAt s y (d .next .bits) m) c′ (k + 1)) (let z : k - j + 1 ≡ k + 1 - j = omega (arith, h .on) in z)
+    subst (λ (m : ℕ). Hearing s b zs j (settledAt s y (d .next .bits) (d .next .count .0) m) c′ (k + 1)) (let z : k - j + 1 ≡ k + 1 - j = omega (arith, h .on) in z)
     (hearing-step s b zs j t c k h i _ c′ e ec)

@@ -58,6 +58,6 @@ pub record Holds (zs : List ℤ) (b : Parts) : Type 0 where
   pub plain : length zs / 2 ≤ length (b .plain)
   pub distance : length zs / 2 ≤ length (b .distance)
 
--- a receiver with a reference x and a full register of bits n, i intervals after s
-abbrev pub settledAt : Receiver → ℕ → ℕ → ℕ → Receiver
-settledAt s x n i = receiver (s .mode) (s .role) (some x) (register n (capacity (s .mode))) (s .place .0 + i)
+-- a receiver with a reference x and a full register of bits n and, since document 02's R-6, the guard's count c, i intervals after s
+abbrev pub settledAt : Receiver → ℕ → ℕ → ℕ → ℕ → Receiver
+settledAt s x n c i = receiver (s .mode) (s .role) (some x) (register n (capacity (s .mode)) c) (s .place .0 + i)

@@ -2,7 +2,10 @@
 ghost use mathlib.Core.Path.{_≡_};
 ghost use mathlib.Core.List.{map};
 ghost use Prim.Native.Nat.{_+_, _<_, _≤_};
+ghost use Rattle.line.specs.Mode.{capacity};
 ghost use Rattle.line.specs.Point.{at, pairs};
+ghost use Rattle.scrambler.specs.Register.{register};
+ghost use Rattle.scrambler.specs.Group.{descrambled};
 ghost use Rattle.deciding.specs.Sizes.{ringOf};
 ghost use Rattle.coding.specs.Rows.{Rows};
 ghost use Rattle.receiver.specs.Receiver.{receiver, point, lost, refusal, answer, forgotten, next};
@@ -14,6 +17,7 @@ use receiver::Intervals;
 use receiver::Receiver;
 use receiver::Reference;
 use scrambler::BitCount;
+use scrambler::Descrambled;
 use scrambler::Register;
 
 // The state after all points, or the number that refuses them.
@@ -63,7 +67,7 @@ fn take(rows: &[u8; 16], s: Receiver, y: u8, u: SquaredUnits) -> Step
         }
         Reference::State(x) => {
             let line = coding::group_by(s.mode, rows, x, y);
-            let d = scrambler::descramble_group(s.mode, s.role, h, line);
+            let d = scrambler::descramble_group(s.mode, s.role, h.bits, h.held.0, h.count.0, line);
             let after = d.next;
             let plain = 16 * d.unsettled.0 + d.plain;
             let next = moved(s, Reference::State(y), after);
@@ -111,10 +115,10 @@ struct Run {
     state: Receiver,
 }
 
-// The receiver i intervals after s, with the reference x and a full register.
-fn settled(s: Receiver, x: u8, bits: u32, i: usize) -> Receiver
+// The receiver i intervals after s, with the reference x, a full register and the guard's count.
+fn settled(s: Receiver, x: u8, bits: u32, count: u8, i: usize) -> Receiver
     requires { ⌜ s .place .0 + i ≤ 4294967295 ⌝ }
-    ensures { λ r. ⌜ r ≡ settledAt s x bits i ⌝ }
+    ensures { λ r. ⌜ r ≡ settledAt s x bits count i ⌝ }
 {
     Receiver {
         mode: s.mode,
@@ -123,14 +127,35 @@ fn settled(s: Receiver, x: u8, bits: u32, i: usize) -> Receiver
         line: Register {
             bits,
             held: BitCount(line::capacity_of(s.mode)),
+            count: BitCount(count),
         },
         place: Intervals(s.place.0 + i as u32),
     }
 }
 
+// The data bits of a group after a full register and a count. Those of a call are handed on field by field, so that the others need no
+// memory.
+fn next_data(mode: u8, role: u8, n: u32, count: u8, group: u8) -> Descrambled
+    ensures { λ r. ⌜ r ≡ descrambled mode role (register n (capacity mode) count) group ⌝ }
+{
+    if line::has_guard(mode) {
+        let d = scrambler::descramble_counted(mode, role, n, count, group);
+        return Descrambled {
+            plain: d.plain,
+            unsettled: BitCount(d.unsettled.0),
+            next: Register {
+                bits: d.next.bits,
+                held: BitCount(d.next.held.0),
+                count: BitCount(d.next.count.0),
+            },
+        };
+    }
+    scrambler::descramble_next(mode, role, n, group)
+}
+
 // Points that nothing refuses, from point `from` up to an origin or the end, after a reference and a full register: all data bits
-// are settled, and nothing but the reference and the register's bits changes. Nearly all points of all callers come through this
-// loop; all that it calls is put in line.
+// are settled, and nothing but the reference, the register's bits and the guard's count changes. Nearly all points of all callers come
+// through this loop; all that it calls is put in line.
 fn hear_settled(
     ring: &[u8; 16],
     rows: &[u8; 16],
@@ -142,13 +167,14 @@ fn hear_settled(
     distance: &mut [u32],
     from: usize,
 ) -> Run
-    requires { ⌜ (now ring ≡ ringOf (s .mode)) × Rows (s .mode) (now rows) × (s ≡ settledAt s reference (s .line .bits) 0) × Hearing s (parts (now line) (now plain) (now distance)) (now points) from s (parts (now line) (now plain) (now distance)) from
+    requires { ⌜ (now ring ≡ ringOf (s .mode)) × Rows (s .mode) (now rows) × (s ≡ settledAt s reference (s .line .bits) (s .line .count .0) 0) × Hearing s (parts (now line) (now plain) (now distance)) (now points) from s (parts (now line) (now plain) (now distance)) from
         × Holds (now points) (parts (now line) (now plain) (now distance)) ⌝ }
     ensures { λ r. ⌜ Hearing s (parts (now (line .entry)) (now (plain .entry)) (now (distance .entry))) (now (points .entry)) from (r .state) (parts (now (line .exit)) (now (plain .exit)) (now (distance .exit))) (r .at) ⌝ }
 {
     let n = points.len() / 2;
     let mut x = reference;
     let mut bits = s.line.bits;
+    let mut count = s.line.count.0;
     let constellation = line::constellation(s.mode);
     let mut k = from;
     while k < n {
@@ -157,12 +183,12 @@ fn hear_settled(
         if deciding::is_origin(re, im) {
             return Run {
                 at: k,
-                state: settled(s, x, bits, k - from),
+                state: settled(s, x, bits, count, k - from),
             };
         }
         let y = deciding::state_at(s.mode, ring, re, im);
         let group = coding::group_by(s.mode, rows, x, y);
-        let d = scrambler::descramble_next(s.mode, s.role, bits, group);
+        let d = next_data(s.mode, s.role, bits, count, group);
         let state = (y % 16) as usize;
         let sent = constellation[state];
         let u = deciding::squared_distance(sent, re, im);
@@ -170,12 +196,13 @@ fn hear_settled(
         plain[k] = d.plain;
         distance[k] = u.0;
         bits = d.next.bits;
+        count = d.next.count.0;
         x = y;
         k += 1;
     }
     Run {
         at: k,
-        state: settled(s, x, bits, k - from),
+        state: settled(s, x, bits, count, k - from),
     }
 }
 

@@ -1,5 +1,5 @@
 -- What the code computes of the differential code is what the tables say. Assumes nothing.
-use mathlib.Core.Path.{_≡_, sym, ap, ap₂, _∙_}
+use mathlib.Core.Path.{_≡_, ap, ap₂, _∙_}
 use Prim.Native.Nat.{ℕ, _+_, _*_, _-_, _/_, _%_, _<_, _≤_}
 use native.Mathlib.Omega.{arith}
 use mathlib.Core.Bool.{Bool, true, cond}
@@ -8,43 +8,44 @@ use lib.Bits.{bitXor}
 use lib.Dec.{T, eqb, eqb→eq, ltb, ltb→lt}
 use lib.ListN.{getD}
 use Rattle.line.specs.Table.{entry, rowFrom, firstRow}
-use Rattle.line.specs.Mode.{face, quadrant}
+use Rattle.line.specs.Mode.{column, face, quadrant}
 use Rattle.coding.specs.Code.{changes4, changes8, changes16, coded, eighths, turnRow, group}
-use Rattle.line.proofs.ByMode.{mode-1, mode-2, mode-3, mode-4}
+use Rattle.line.proofs.ByMode.{same-column, mode-1, mode-2, mode-3, mode-4}
 use Rattle.line.proofs.TableLaws.{below-at, row-below, all, test-at}
 use Rattle.coding.specs.Rule.{place, turnsFor}
 use Rattle.coding.proofs.ModeLaws.{by-rule}
 
-module _ (m x g : ℕ) where
-  pub coded-1 : (c : ℕ) → m ≤ 1 → c ≡ entry changes4 g → (x % 8 + 2 * c) % 8 ≡ coded m (face m x) g
+-- k is the mode's column, as the code found it
+module _ (m k x g : ℕ) (f : k ≡ column m) where
+  pub coded-1 : (c : ℕ) → k ≤ 1 → c ≡ entry changes4 g → (x % 8 + 2 * c) % 8 ≡ coded m (face m x) g
   unfolding coded face
   coded-1 c h e =
       (let z : (x % 8 + 2 * c) % 8 ≡ (x + 2 * c) % 8 = omega arith in z)
-      ∙ ap₂ (λ (y k : ℕ). (y + 2 * k) % 8) (sym (mode-1 x x x (quadrant x) m h)) e
-      ∙ sym (mode-1 _ _ _ _ m h)
+      ∙ ap₂ (λ (y i : ℕ). (y + 2 * i) % 8) (mode-1 x x x (quadrant x) m k f h) e
+      ∙ mode-1 _ _ _ _ m k f h
 
-  pub coded-2 : (c : ℕ) → m ≡ 2 → c ≡ entry changes8 g → (x % 8 + c) % 8 ≡ coded m (face m x) g
+  pub coded-2 : (c : ℕ) → k ≡ 2 → c ≡ entry changes8 g → (x % 8 + c) % 8 ≡ coded m (face m x) g
   unfolding coded face
   coded-2 c h e =
       (let z : (x % 8 + c) % 8 ≡ (x + c) % 8 = omega arith in z)
-      ∙ ap₂ (λ (y k : ℕ). (y + k) % 8) (sym (mode-2 x x x (quadrant x) m h)) e
-      ∙ sym (mode-2 _ _ _ _ m h)
+      ∙ ap₂ (λ (y i : ℕ). (y + i) % 8) (mode-2 x x x (quadrant x) m k f h) e
+      ∙ mode-2 _ _ _ _ m k f h
 
-  pub coded-3 : (c : ℕ) → m ≡ 3 → c ≡ entry changes16 (4 * g + x / 4 % 4) → 4 * c + 1 ≡ coded m (face m x) g
+  pub coded-3 : (c : ℕ) → k ≡ 3 → c ≡ entry changes16 (4 * g + x / 4 % 4) → 4 * c + 1 ≡ coded m (face m x) g
   unfolding coded face quadrant
   coded-3 c h e =
-      ap (λ (k : ℕ). 4 * k + 1) e
-      ∙ ap (λ (y : ℕ). 4 * entry changes16 (4 * g + y / 4 % 4) + 1) (sym (mode-3 x x x (x / 4 % 4) m h))
-      ∙ sym (mode-3 _ _ _ _ m h)
+      ap (λ (i : ℕ). 4 * i + 1) e
+      ∙ ap (λ (y : ℕ). 4 * entry changes16 (4 * g + y / 4 % 4) + 1) (mode-3 x x x (x / 4 % 4) m k f h)
+      ∙ mode-3 _ _ _ _ m k f h
 
-  pub coded-4 : (c : ℕ) → 1 < m → (m ≡ 2 → ⊥) → (m ≡ 3 → ⊥) → c ≡ entry changes16 (4 * (g / 4) + x / 4 % 4) → 4 * c + g % 4 ≡ coded m (face m x) g
+  pub coded-4 : (c : ℕ) → 1 < k → (k ≡ 2 → ⊥) → (k ≡ 3 → ⊥) → c ≡ entry changes16 (4 * (g / 4) + x / 4 % 4) → 4 * c + g % 4 ≡ coded m (face m x) g
   unfolding coded face quadrant
   coded-4 c h p q e =
       let z : x / 4 % 4 ≡ x / 4 % 4 % 4 = omega arith in
-      ap (λ (k : ℕ). 4 * k + g % 4) e
+      ap (λ (i : ℕ). 4 * i + g % 4) e
       ∙ ap (λ (y : ℕ). 4 * entry changes16 (4 * (g / 4) + y) + g % 4) z
-      ∙ ap (λ (y : ℕ). 4 * entry changes16 (4 * (g / 4) + y % 4) + g % 4) (sym (mode-4 x x x (x / 4 % 4) m h p q))
-      ∙ sym (mode-4 _ _ _ _ m h p q)
+      ∙ ap (λ (y : ℕ). 4 * entry changes16 (4 * (g / 4) + y % 4) + g % 4) (mode-4 x x x (x / 4 % 4) m k f h p q)
+      ∙ mode-4 _ _ _ _ m k f h p q
 
 -- just one row of a table holds what is looked for, so that the rows that hold it add up to the first: one computed test for each table
 abbrev if-row : ℕ → ℕ → ℕ → ℕ
@@ -96,31 +97,42 @@ change16-law q y t p r h et ep er =
 pub row16-law : (y z a b r : ℕ) → y < 4 → z < 4 → b ≡ place z → a ≡ place y → r ≡ turnsFor ((b + 4 - a) % 4) → r ≡ turnRow y z
 row16-law y z a b r hy hz eb ea er = er ∙ ap₂ (λ (i j : ℕ). turnsFor ((i + 4 - j) % 4)) eb ea ∙ by-rule y z hy hz .found
 
-module _ (m x s : ℕ) where
+-- k is the mode's column, as the code found it
+module _ (m k x s : ℕ) (f : k ≡ column m) where
   abbrev turn8 : ℕ
   turn8 = (s % 8 + 8 - x % 8) % 8
 
-  pub group-1 : (r : ℕ) → m ≤ 1 → r ≡ firstRow (λ g. eqb (entry changes4 g) (turn8 / 2)) 3 → r ≡ group m (face m x) s
+  pub group-1 : (r : ℕ) → k ≤ 1 → r ≡ firstRow (λ g. eqb (entry changes4 g) (turn8 / 2)) 3 → r ≡ group m (face m x) s
   unfolding group face eighths
   group-1 r h e =
-      e ∙ ap (λ (q : ℕ). firstRow (λ g. eqb (entry changes4 g) ((s % 8 + 8 - q % 8) % 8 / 2)) 3) (sym (mode-1 x x x (quadrant x) m h))
-      ∙ sym (mode-1 _ _ _ _ m h)
+      e ∙ ap (λ (q : ℕ). firstRow (λ g. eqb (entry changes4 g) ((s % 8 + 8 - q % 8) % 8 / 2)) 3) (mode-1 x x x (quadrant x) m k f h)
+      ∙ mode-1 _ _ _ _ m k f h
 
-  pub group-2 : (r : ℕ) → m ≡ 2 → r ≡ firstRow (λ g. eqb (entry changes8 g) turn8) 7 → r ≡ group m (face m x) s
+  pub group-2 : (r : ℕ) → k ≡ 2 → r ≡ firstRow (λ g. eqb (entry changes8 g) turn8) 7 → r ≡ group m (face m x) s
   unfolding group face eighths
   group-2 r h e =
-      e ∙ ap (λ (q : ℕ). firstRow (λ g. eqb (entry changes8 g) ((s % 8 + 8 - q % 8) % 8)) 7) (sym (mode-2 x x x (quadrant x) m h))
-      ∙ sym (mode-2 _ _ _ _ m h)
+      e ∙ ap (λ (q : ℕ). firstRow (λ g. eqb (entry changes8 g) ((s % 8 + 8 - q % 8) % 8)) 7) (mode-2 x x x (quadrant x) m k f h)
+      ∙ mode-2 _ _ _ _ m k f h
 
-  pub group-3 : (r : ℕ) → m ≡ 3 → r ≡ turnRow (x / 4 % 4) (s / 4 % 4) → r ≡ group m (face m x) s
+  pub group-3 : (r : ℕ) → k ≡ 3 → r ≡ turnRow (x / 4 % 4) (s / 4 % 4) → r ≡ group m (face m x) s
   unfolding group face quadrant
   group-3 r h e =
-      e ∙ ap (λ (q : ℕ). turnRow (q / 4 % 4) (s / 4 % 4)) (sym (mode-3 x x x (x / 4 % 4) m h)) ∙ sym (mode-3 _ _ _ _ m h)
+      e ∙ ap (λ (q : ℕ). turnRow (q / 4 % 4) (s / 4 % 4)) (mode-3 x x x (x / 4 % 4) m k f h) ∙ mode-3 _ _ _ _ m k f h
 
-  pub group-4 : (r : ℕ) → 1 < m → (m ≡ 2 → ⊥) → (m ≡ 3 → ⊥) → r ≡ turnRow (x / 4 % 4) (s / 4 % 4) → 4 * r + s % 4 ≡ group m (face m x) s
+  pub group-4 : (r : ℕ) → 1 < k → (k ≡ 2 → ⊥) → (k ≡ 3 → ⊥) → r ≡ turnRow (x / 4 % 4) (s / 4 % 4) → 4 * r + s % 4 ≡ group m (face m x) s
   unfolding group face quadrant
   group-4 r h p q e =
       let z : x / 4 % 4 ≡ x / 4 % 4 % 4 = omega arith in
-      ap (λ (k : ℕ). 4 * k + s % 4) (e ∙ ap (λ (y : ℕ). turnRow y (s / 4 % 4)) z)
-      ∙ ap (λ (y : ℕ). 4 * turnRow (y % 4) (s / 4 % 4) + s % 4) (sym (mode-4 x x x (x / 4 % 4) m h p q))
-      ∙ sym (mode-4 _ _ _ _ m h p q)
+      ap (λ (i : ℕ). 4 * i + s % 4) (e ∙ ap (λ (y : ℕ). turnRow y (s / 4 % 4)) z)
+      ∙ ap (λ (y : ℕ). 4 * turnRow (y % 4) (s / 4 % 4) + s % 4) (mode-4 x x x (x / 4 % 4) m k f h p q)
+      ∙ mode-4 _ _ _ _ m k f h p q
+
+-- the code by a mode's column is the mode's
+module _ (m k x g : ℕ) (f : k ≡ column m) where
+  pub coded-column : coded k (face k x) g ≡ coded m (face m x) g
+  unfolding coded face
+  coded-column = ap (λ (q : ℕ). coded k q g) (same-column x x x (quadrant x) m k f) ∙ same-column _ _ _ _ m k f
+
+  pub group-column : group k (face k x) g ≡ group m (face m x) g
+  unfolding group face
+  group-column = ap (λ (q : ℕ). group k q g) (same-column x x x (quadrant x) m k f) ∙ same-column _ _ _ _ m k f

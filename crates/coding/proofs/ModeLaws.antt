@@ -35,7 +35,7 @@ groupsTest m x = every (λ g. all (groupTests m x g)) (below (2 ^ width m))
 
 tests : (m : ℕ) → T (isMode m) → T (every (λ x. pairsTest m x && groupsTest m x) (states m))
 unfolding pairsTest groupsTest groupTests pairTests stepsTo rowFrom entry width states isState quadrant nextQuadrant step turn wholeSteps face changes4 changes8 changes16 coded eighths turnRow group
-tests = mode-cases (λ m. T (every (λ x. pairsTest m x && groupsTest m x) (states m))) tt tt tt tt
+tests = mode-cases (λ m. T (every (λ x. pairsTest m x && groupsTest m x) (states m))) tt tt tt tt tt tt
 
 both : (m x : ℕ) → T (isMode m) → T (isState m x) → T (pairsTest m x && groupsTest m x)
 both m x hm hx = state-at m (λ z. pairsTest m z && groupsTest m z) (tests m hm) x hx

@@ -57,23 +57,31 @@ fn change16(q: u8, y: u8) -> u8
     ring_place((turns_for(q % 4) + ring_place(y)) % 4)
 }
 
-// The state that a group of line bits gives after a reference. That Y1 Y2 are taken first and mode 3 is asked for before mode 2 is
-// for the compiler: in most other orders it puts the function in line in the sender's loop, and mode 2 takes longer.
-pub fn next_state(mode: u8, reference: u8, g: u8) -> u8
-    ensures { λ r. ⌜ r ≡ coded mode (face mode reference) g ⌝ }
+// The state that a group of line bits gives after a reference, by the mode's column. That Y1 Y2 are taken first and mode 3 is asked for
+// before mode 2 is for the compiler: in most other orders it puts the function in line in the sender's loop, and mode 2 takes longer.
+fn coded_in(c: u8, reference: u8, g: u8) -> u8
+    requires { ⌜ c ≤ 4 ⌝ }
+    ensures { λ r. ⌜ r ≡ coded c (face c reference) g ⌝ }
 {
     let bits = g as usize;
     let y = reference / 4 % 4;
-    if mode <= 1 {
+    if c <= 1 {
         return (reference % 8 + 2 * change4(bits)) % 8;
     }
-    if mode == 3 {
+    if c == 3 {
         return 4 * change16(g, y) + 1;
     }
-    if mode == 2 {
+    if c == 2 {
         return (reference % 8 + change8(bits)) % 8;
     }
     4 * change16(g / 4, y) + g % 4
+}
+
+// The same of a mode. Here and below a mode's column is found once, and what branches takes the column.
+pub fn next_state(mode: u8, reference: u8, g: u8) -> u8
+    ensures { λ r. ⌜ r ≡ coded mode (face mode reference) g ⌝ }
+{
+    coded_in(line::column_of(mode), reference, g)
 }
 
 // The row, if it is the one; else 0.
@@ -114,30 +122,38 @@ fn row16(y: u8, z: u8) -> u8
     turns_for((ring_place(z) + 4 - ring_place(y)) % 4)
 }
 
-// The group of line bits that leads from a reference to a state.
-pub fn group_of(mode: u8, reference: u8, s: u8) -> u8
-    ensures { λ r. ⌜ r ≡ group mode (face mode reference) s ⌝ }
+// The group of line bits that leads from a reference to a state, by the mode's column.
+fn group_in(c: u8, reference: u8, s: u8) -> u8
+    requires { ⌜ c ≤ 4 ⌝ }
+    ensures { λ r. ⌜ r ≡ group c (face c reference) s ⌝ }
 {
     let turn = (s % 8 + 8 - reference % 8) % 8;
-    if mode <= 1 {
+    if c <= 1 {
         return row4(turn / 2) as u8;
     }
-    if mode == 2 {
+    if c == 2 {
         return row8(turn) as u8;
     }
     let row = row16(reference / 4 % 4, s / 4 % 4);
-    if mode == 3 {
+    if c == 3 {
         return row;
     }
     4 * row + s % 4
 }
 
+pub fn group_of(mode: u8, reference: u8, s: u8) -> u8
+    ensures { λ r. ⌜ r ≡ group mode (face mode reference) s ⌝ }
+{
+    group_in(line::column_of(mode), reference, s)
+}
+
 // The index of the row that leads from a reference to a state: the turns of 45° between them, or both quadrants.
-fn row_index(mode: u8, reference: u8, s: u8) -> usize
-    ensures { λ r. ⌜ r ≡ rowIndex mode reference s ⌝ }
+fn row_index(c: u8, reference: u8, s: u8) -> usize
+    requires { ⌜ c ≤ 4 ⌝ }
+    ensures { λ r. ⌜ r ≡ rowIndex c reference s ⌝ }
     ensures { λ r. ⌜ r < 16 ⌝ }
 {
-    if mode <= 2 {
+    if c <= 2 {
         ((s % 8 + 8 - reference % 8) % 8) as usize
     } else {
         (4 * (reference / 4 % 4) + s / 4 % 4) as usize
@@ -145,50 +161,61 @@ fn row_index(mode: u8, reference: u8, s: u8) -> usize
 }
 
 // What Q1 Q2 count in a group, which in mode 4 stand before Q3 Q4.
-fn row_unit(mode: u8) -> u8
-    ensures { λ r. ⌜ r ≡ rowUnit mode ⌝ }
+fn row_unit(c: u8) -> u8
+    requires { ⌜ c ≤ 4 ⌝ }
+    ensures { λ r. ⌜ r ≡ rowUnit c ⌝ }
 {
-    if mode <= 3 { 1 } else { 4 }
+    if c <= 3 { 1 } else { 4 }
 }
 
 // The row at an index. Modes 3 and 4 are one product: of two cases the compiler makes the rows of 001's table 1 constants, and these
 // are not to stand in the image.
-fn row_at(mode: u8, i: usize) -> u8
-    ensures { λ r. ⌜ r ≡ rowAt mode i ⌝ }
+fn row_at(c: u8, i: usize) -> u8
+    requires { ⌜ c ≤ 4 ⌝ }
+    ensures { λ r. ⌜ r ≡ rowAt c i ⌝ }
 {
-    if mode <= 1 {
+    if c <= 1 {
         row4((i % 8 / 2) as u8) as u8
-    } else if mode == 2 {
+    } else if c == 2 {
         row8((i % 8) as u8) as u8
     } else {
-        row_unit(mode) * row16((i / 4 % 4) as u8, (i % 4) as u8)
+        row_unit(c) * row16((i / 4 % 4) as u8, (i % 4) as u8)
     }
 }
 
 // The group of a row and a state: in mode 4 with Q3 Q4.
-fn with_row(mode: u8, row: u8, s: u8) -> u8
-    ensures { λ r. ⌜ r ≡ withRow mode row s ⌝ }
+fn with_row(c: u8, row: u8, s: u8) -> u8
+    requires { ⌜ c ≤ 4 ⌝ }
+    ensures { λ r. ⌜ r ≡ withRow c row s ⌝ }
 {
-    if mode <= 3 { row } else { row % 16 + s % 4 }
+    if c <= 3 { row } else { row % 16 + s % 4 }
 }
 
-// All rows of a mode, found once for a caller that looks up many. The first is found apart: with two calls of `row_at` the loop is
-// unrolled before they are put in line.
-pub fn rows_of(mode: u8) -> [u8; 16]
-    ensures { λ r. ⌜ Rows mode r ⌝ }
+// All rows of a column. The first is found apart: with two calls of `row_at` the loop is unrolled before they are put in line.
+fn rows_in(c: u8) -> [u8; 16]
+    requires { ⌜ c ≤ 4 ⌝ }
+    ensures { λ r. ⌜ Rows c r ⌝ }
 {
-    let mut rows = [row_at(mode, 0); 16];
+    let mut rows = [row_at(c, 0); 16];
     let mut i = 1;
     while i < 16 {
-        rows[i] = row_at(mode, i);
+        rows[i] = row_at(c, i);
         i += 1;
     }
     rows
+}
+
+// All rows of a mode, found once for a caller that looks up many.
+pub fn rows_of(mode: u8) -> [u8; 16]
+    ensures { λ r. ⌜ Rows mode r ⌝ }
+{
+    rows_in(line::column_of(mode))
 }
 
 // The group by the rows of its mode, which the law `looked-up` asks for.
 pub fn group_by(mode: u8, rows: &[u8; 16], reference: u8, s: u8) -> u8
     ensures { λ r. ⌜ r ≡ withRow mode (getD (now (rows .entry)) (rowIndex mode reference s) 0) s ⌝ }
 {
-    with_row(mode, rows[row_index(mode, reference, s)], s)
+    let c = line::column_of(mode);
+    with_row(c, rows[row_index(c, reference, s)], s)
 }

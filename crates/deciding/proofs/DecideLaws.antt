@@ -65,7 +65,7 @@ is-state Origin x t = absurd t
 -- one computed test over modes and states
 sent-tests : (m : ℕ) → T (isMode m) → T (every (λ x. is (decide m (sentPoint m x)) x) (states m))
 unfolding states quadrant nextQuadrant step turn quarterSteps isOrigin sent27 levels32 sent32 sentPoint inFirst sector outer first quarters decide
-sent-tests = mode-cases (λ m. T (every (λ x. is (decide m (sentPoint m x)) x) (states m))) tt tt tt tt
+sent-tests = mode-cases (λ m. T (every (λ x. is (decide m (sentPoint m x)) x) (states m))) tt tt tt tt tt tt
 
 pub decided-sent : DecidedSent
 decided-sent m x hm hx = is-state (decide m (sentPoint m x)) x (state-at m (λ z. is (decide m (sentPoint m z)) z) (sent-tests m hm) x hx)

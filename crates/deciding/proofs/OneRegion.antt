@@ -20,13 +20,13 @@ use Rattle.line.proofs.TableLaws.{and-left, and-right, alike, alike-eq, every-a
 use Rattle.deciding.specs.Decide.{State, square, inFirst, sector, outer, first, turnedState, decide}
 use Rattle.deciding.specs.Regions.{about0, about45, quartersTo, regionBack, inRegion, inSector}
 use Rattle.deciding.specs.Laws.{InOneRegion, InOneSector}
-use Rattle.deciding.proofs.RegionLaws.{Turn, turn-add, turn-mod, turn-by, turned-decide, base, Sloped, sloped-1, sloped-3, turn-within, turn-past, turn-2, turn-4, turn-4-axis}
+use Rattle.deciding.proofs.RegionLaws.{TurnIn, Turn, turn-add, turn-mod, turn-by, turned-decide, base, Sloped, sloped-1, sloped-3, turn-within, turn-past, turn-2, turn-4, turn-4-axis}
 use Rattle.deciding.proofs.SizeLaws.{not-zero, base-off}
 use Rattle.deciding.proofs.SectorLaws.{here, three, about0-left, about45-out}
 
 -- ONE TURN OF THE FIRST REGION
 
-at-each : {m : ℕ} {z : Point} {j : ℕ} → Turn m z j → (i : ℕ) → i < 4 → inFirst m (turnedBy i z) ≡ eqb i j
+at-each : {f : Point → Bool} {z : Point} {j : ℕ} → TurnIn f z j → (i : ℕ) → i < 4 → f (turnedBy i z) ≡ eqb i j
 at-each t zero h = t .at-0
 at-each t (suc zero) h = t .at-1
 at-each t (suc (suc zero)) h = t .at-2
@@ -45,12 +45,17 @@ turnsIn m = byMode m (0 ∷ 3 ∷ []) (0 ∷ []) (0 ∷ 3 ∷ []) (0 ∷ 1 ∷ [
 abbrev firsts : ℕ → List ℕ
 firsts m = byMode m (0 ∷ []) (0 ∷ 1 ∷ 2 ∷ []) (13 ∷ []) (12 ∷ 13 ∷ 14 ∷ 15 ∷ [])
 
--- of a point with re > 0 and im ≥ 0: its turn that lies in the first region, and what the regions say of each of its turns
-record Based (m : ℕ) (z : Point) : Type 0 where
+-- of a point with re > 0 and im ≥ 0: its turn that lies in the first region, and what the regions say of each of its turns; again by what a
+-- mode reads
+record BasedIn (ways : List ℕ) (region : Point → Bool) (z : Point) (Regions : ℕ → Type 0) : Type 0 where
   by : ℕ
-  among : T (member by (turnsIn m))
-  turn : Turn m z by
-  regions : (x i : ℕ) → i < 4 → regionBack m x (turnedBy i z) ≡ regionAt m x i by (first m (turnedBy by z))
+  among : T (member by ways)
+  turn : TurnIn region z by
+  regions : Regions by
+
+abbrev Based : ℕ → Point → Type 0
+Based m z =
+    BasedIn (turnsIn m) (inFirst m) z (λ j. (x i : ℕ) → i < 4 → regionBack m x (turnedBy i z) ≡ regionAt m x i j (first m (turnedBy j z)))
 
 -- modes 1 and 3
 sloped-turn : (m n a b : ℕ) → Sloped m n → {A : Type 0} → ((j : ℕ) → T (member j (0 ∷ 3 ∷ [])) → Turn m (base m a b) j → A) → A
@@ -91,14 +96,15 @@ first-among : (m : ℕ) → T (isMode m) → (z : Point) → T (member (first m 
 first-among =
     mode-cases (λ m. (z : Point) → T (member (first m z) (firsts m))) (unfold first in (λ z. tt))
     (unfold first in sector-among) (unfold first in (λ z. tt))
-    (λ z. first-corner z .0)
+    (λ z. first-corner z .0) (unfold first in (λ z. tt)) (unfold first in sector-among)
 
 -- the state of a point of the first region is one of the mode
 pub first-state : (m : ℕ) → T (isMode m) → (z : Point) → T (isState m (first m z))
+unfolding isState states
 first-state m hm z = every-at (isState m) (firsts m) (first m z) (states-of m hm) (first-among m hm z)
   where
     states-of : (m : ℕ) → T (isMode m) → T (every (isState m) (firsts m))
-    states-of = mode-cases (λ m. T (every (isState m) (firsts m))) (unfold isState states in tt) (unfold isState states in tt) (unfold isState states in tt) (unfold isState states in tt)
+    states-of = mode-cases (λ m. T (every (isState m) (firsts m))) tt tt tt tt tt tt
 
 same-at : (i j : ℕ) (f : ℕ → Bool) → eqb i j && f i ≡ eqb i j && f j
 same-at i j f = go (eqb i j) refl
@@ -110,11 +116,11 @@ same-at i j f = go (eqb i j) refl
 module _ (a b : ℕ) where
   based-1 : Based 1 (base 1 a b)
   unfolding first
-  based-1 = sloped-turn 1 1 a b (sloped-1 1 (omega arith)) (λ j h t. record { by = j; among = h; turn = t; regions = λ x i l. at-each t i l })
+  based-1 = sloped-turn 1 1 a b (sloped-1 1 1 refl (omega arith)) (λ j h t. record { by = j; among = h; turn = t; regions = λ x i l. at-each t i l })
 
   based-3 : Based 3 (base 3 a b)
   unfolding first
-  based-3 = sloped-turn 3 2 a b (sloped-3 3 refl) (λ j h t. record { by = j; among = h; turn = t; regions = λ x i l. at-each t i l })
+  based-3 = sloped-turn 3 2 a b (sloped-3 3 3 refl refl) (λ j h t. record { by = j; among = h; turn = t; regions = λ x i l. at-each t i l })
 
   -- what `three` says at each turn
   even : (i : ℕ) → i < 4 → about0 (turnedBy i (here a b)) ≡ cond (eqb i 0) (eqb (sector (here a b)) 0) (eqb i 3 && eqb (sector (here a b)) 2)
@@ -127,11 +133,11 @@ module _ (a b : ℕ) where
   odd : (i : ℕ) → i < 4 → about45 (turnedBy i (here a b)) ≡ eqb i 0 && eqb (sector (here a b)) 1
   odd zero l = three a b .2
   odd (suc i) l =
-      about45-out _ (at-each (turn-2 2 a b refl) (suc i) l ∙ not-zero i) ∙ ap (λ (t : Bool). t && eqb (sector (here a b)) 1) (sym (not-zero i))
+      about45-out _ (at-each (turn-2 2 2 a b refl refl) (suc i) l ∙ not-zero i) ∙ ap (λ (t : Bool). t && eqb (sector (here a b)) 1) (sym (not-zero i))
 
   based-2 : Based 2 (base 2 a b)
   unfolding first
-  based-2 = record { by = 0; among = tt; turn = turn-2 2 a b refl; regions = λ x i l. ap₂ (cond (eqb (x % 2) 0)) (even i l) (odd i l) }
+  based-2 = record { by = 0; among = tt; turn = turn-2 2 2 a b refl refl; regions = λ x i l. ap₂ (cond (eqb (x % 2) 0)) (even i l) (odd i l) }
 
   based-4 : Based 4 (base 4 a b)
   based-4 = go (decLe b 0)
@@ -149,11 +155,13 @@ module _ (a b : ℕ) where
           }
 
       go : Dec (b ≤ 0) → Based 4 (base 4 a b)
-      go (yes p) = at-turn 1 tt (turn-4-axis 4 a b (omega arith) (λ e. omega arith) (λ e. omega arith) (omega arith))
-      go (no p) = at-turn 0 tt (turn-4 4 a b (omega arith) (λ e. omega arith) (λ e. omega arith) (omega (arith, p)))
+      go (yes p) = at-turn 1 tt (turn-4-axis 4 4 a b refl (omega arith) (λ e. omega arith) (λ e. omega arith) (omega arith))
+      go (no p) = at-turn 0 tt (turn-4 4 4 a b refl (omega arith) (λ e. omega arith) (λ e. omega arith) (omega (arith, p)))
 
+-- modes 5 and 6 read the columns of 1 and 2
 based : (m : ℕ) → T (isMode m) → (a b : ℕ) → Based m (base m a b)
-based = mode-cases (λ m. (a b : ℕ) → Based m (base m a b)) based-1 based-2 based-3 based-4
+unfolding inFirst first
+based = mode-cases (λ m. (a b : ℕ) → Based m (base m a b)) based-1 based-2 based-3 based-4 based-1 based-2
 
 -- EVERY POINT OFF THE ORIGIN
 
@@ -184,7 +192,7 @@ pub record InOne (m : ℕ) (z : Point) : Type 0 where
   pub turn : Turn m z by
 
 turns-few : (m j : ℕ) → T (isMode m) → T (member j (turnsIn m)) → j < 4
-turns-few m j hm t = ltb→lt j 4 (every-at (λ i. ltb i 4) (turnsIn m) j (mode-cases (λ n. T (every (λ i. ltb i 4) (turnsIn n))) tt tt tt tt m hm) t)
+turns-few m j hm t = ltb→lt j 4 (every-at (λ i. ltb i 4) (turnsIn m) j (mode-cases (λ n. T (every (λ i. ltb i 4) (turnsIn n))) tt tt tt tt tt tt m hm) t)
 
 pub region-of : (m : ℕ) → T (isMode m) → (z : Point) → isOrigin z ≡ false → InOne m z
 region-of m hm z o =
@@ -210,7 +218,7 @@ regionTests m k j c = isState m (stateAt m k j c) && every (λ x. ltb (quartersT
 
 tests : (m : ℕ) → T (isMode m) → T (every (λ k. every (λ j. every (regionTests m k j) (firsts m)) (turnsIn m)) (below 4))
 unfolding states isState quadrant nextQuadrant step turn quarterSteps quartersTo
-tests = mode-cases (λ m. T (every (λ k. every (λ j. every (regionTests m k j) (firsts m)) (turnsIn m)) (below 4))) tt tt tt tt
+tests = mode-cases (λ m. T (every (λ k. every (λ j. every (regionTests m k j) (firsts m)) (turnsIn m)) (below 4))) tt tt tt tt tt tt
 
 -- from k turns to the place in the first region, by the turns that lead to the state x
 turned-back : (n k : ℕ) (z : Point) → n < 4 → k < 4 → turnedBy ((4 - n) % 4) (turnedBy k z) ≡ turnedBy ((k + 4 - n) % 4) z
@@ -266,7 +274,7 @@ unfolding isMode
 in-one-sector p o = each (in-one-region 2 p tt o)
   where
     state-is : (i : ℕ) → ltb i 8 ≡ isState 2 i
-    state-is i = states-2 2 i refl
+    state-is i = states-2 2 2 i refl refl
 
     each : One 2 p → (k : ℕ) × (k < 8) × (decide 2 p ≡ State k) × ((i : ℕ) → i < 8 → inSector i p ≡ eqb i k)
     each (k, t, d, f) =

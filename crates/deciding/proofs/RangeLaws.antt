@@ -120,8 +120,9 @@ module _ (m : ℕ) (hm : T (isMode m)) where
   turns-within (suc k) z o w = turned-within (turnedBy k z) (off-turned k z o) (turns-within k z o w)
 
   arc-within : (a b : ℕ) → suc a ≤ 16384 → b ≤ 16384 → Within m (base m a b) (State (stateArc m (arc 0 (suc a) b)))
+  unfolding stateArc distance sentPoint
   arc-within a b ha hb =
-      mode-cases (λ n. Within n (at (pos (suc a)) (pos b)) (State (stateArc n (arc 0 (suc a) b)))) (mode-1 a b ha hb) (mode-2 a b ha hb) (mode-3 a b ha hb) (mode-4 a b ha hb) m hm
+      mode-cases (λ n. Within n (at (pos (suc a)) (pos b)) (State (stateArc n (arc 0 (suc a) b)))) (mode-1 a b ha hb) (mode-2 a b ha hb) (mode-3 a b ha hb) (mode-4 a b ha hb) (mode-1 a b ha hb) (mode-2 a b ha hb) m hm
 
   quarter-within : (k a b : ℕ) → suc a ≤ 16384 → b ≤ 16384 → Within m (turnedBy k (base m a b)) (decide m (turnedBy k (base m a b)))
   quarter-within k a b ha hb = turns-within k (base m a b) (base-off m a b) (subst (Within m (base m a b)) (sym (arc-decide m 0 a b (omega arith))) (arc-within a b ha hb))

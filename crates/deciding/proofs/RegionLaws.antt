@@ -8,6 +8,7 @@ use borrow.Author.Tests.{le-leb, lt-leb}
 use lib.Dec.{eqb, leb, eqb→eq}
 use lib.IntN.{ℤ, pos, negsuc, natAbs, negℤ-negℤ, subℕ, _+ℤ_}
 use Rattle.line.specs.declared.Point.{Point}
+use Rattle.line.specs.Mode.{column}
 use Rattle.line.specs.Point.{at, isOrigin, turned, turnedBy}
 use Rattle.deciding.specs.Decide.{State, within45, inFirst, first, turnedState, quarters, decide}
 use Rattle.line.proofs.ByMode.{mode-1, mode-2, mode-3, mode-4}
@@ -18,12 +19,16 @@ use Rattle.deciding.proofs.Differences.{leb-same, pos-difference, negat
 pub turn-four : (z : Point) → turnedBy 4 z ≡ z
 turn-four z = ap₂ at (negℤ-negℤ (z .re)) (negℤ-negℤ (z .im))
 
--- a point and its turns, of which the one at j lies in the first region and no other
-pub record Turn (m : ℕ) (z : Point) (j : ℕ) : Type 0 where
-  pub at-0 : inFirst m z ≡ eqb 0 j
-  pub at-1 : inFirst m (turnedBy 1 z) ≡ eqb 1 j
-  pub at-2 : inFirst m (turnedBy 2 z) ≡ eqb 2 j
-  pub at-3 : inFirst m (turnedBy 3 z) ≡ eqb 3 j
+-- a point and its turns, of which the one at j lies in the first region and no other; the region is its test, so that what holds of a mode
+-- holds of one that reads the same column
+pub record TurnIn (region : Point → Bool) (z : Point) (j : ℕ) : Type 0 where
+  pub at-0 : region z ≡ eqb 0 j
+  pub at-1 : region (turnedBy 1 z) ≡ eqb 1 j
+  pub at-2 : region (turnedBy 2 z) ≡ eqb 2 j
+  pub at-3 : region (turnedBy 3 z) ≡ eqb 3 j
+
+abbrev pub Turn : ℕ → Point → ℕ → Type 0
+Turn m z j = TurnIn (inFirst m) z j
 
 turn-next : (m : ℕ) (z : Point) (j i : ℕ) → Turn m z j → eqb 1 j ≡ eqb 0 i → eqb 2 j ≡ eqb 1 i → eqb 3 j ≡ eqb 2 i → eqb 0 j ≡ eqb 3 i → Turn m (turned z) i
 turn-next m z j i t p q r s =
@@ -140,43 +145,43 @@ module _ (m : ℕ) (k : FirstRegion m) (z : Point) (a b c d : ℕ) (e : z ≡ at
   not-r : k .s a b c d < k .r a b c d → inFirst m z ≡ false
   not-r f = ap (inFirst m) e ∙ k .are a b c d ∙ ap (λ (t : Bool). leb (k .p a b c d) (k .q a b c d) && t) (lt-leb _ _ f) ∙ and-false (leb (k .p a b c d) (k .q a b c d))
 
--- mode 2: im ≥ 0 and re > 0
-abbrev region-2 : (m : ℕ) → m ≡ 2 → FirstRegion m
-region-2 m h =
+-- mode 2: im ≥ 0 and re > 0; here and below k is the mode's column
+abbrev region-2 : (m k : ℕ) → k ≡ column m → k ≡ 2 → FirstRegion m
+region-2 m k e h =
     record {
       p = λ a b c d. 0 + d;
       q = λ a b c d. c + 0;
       r = λ a b c d. suc (0 + b);
       s = λ a b c d. a + 0;
-      are = unfold inFirst in (λ a b c d. mode-2 _ _ _ _ m h ∙ ap₂ _&&_ (less-difference 0 0 c d) (below-difference 0 0 a b));
+      are = unfold inFirst in (λ a b c d. sym (mode-2 _ _ _ _ m k e h) ∙ ap₂ _&&_ (less-difference 0 0 c d) (below-difference 0 0 a b));
     }
 
 -- mode 4: quadrant I
-abbrev region-4 : (m : ℕ) → 1 < m → (m ≡ 2 → ⊥) → (m ≡ 3 → ⊥) → FirstRegion m
-region-4 m h f g =
+abbrev region-4 : (m k : ℕ) → k ≡ column m → 1 < k → (k ≡ 2 → ⊥) → (k ≡ 3 → ⊥) → FirstRegion m
+region-4 m k e h f g =
     record {
       p = λ a b c d. 0 + b;
       q = λ a b c d. a + 0;
       r = λ a b c d. suc (0 + d);
       s = λ a b c d. c + 0;
-      are = unfold inFirst in (λ a b c d. mode-4 _ _ _ _ m h f g ∙ ap₂ _&&_ (less-difference 0 0 a b) (below-difference 0 0 c d));
+      are = unfold inFirst in (λ a b c d. sym (mode-4 _ _ _ _ m k e h f g) ∙ ap₂ _&&_ (less-difference 0 0 a b) (below-difference 0 0 c d));
     }
 
 -- modes 1 and 3, about a state: up to n across for one along
 abbrev pub Sloped : ℕ → ℕ → Type 0
 Sloped m n = (a b c d : ℕ) → inFirst m (at (subℕ a b) (subℕ c d)) ≡ leb (suc (b + n * d)) (n * c + a) && leb (c + n * b) (n * a + d)
 
-pub sloped-1 : (m : ℕ) → m ≤ 1 → Sloped m 1
+pub sloped-1 : (m k : ℕ) → k ≡ column m → k ≤ 1 → Sloped m 1
 unfolding inFirst
-sloped-1 m h a b c d =
-    mode-1 _ _ _ _ m h ∙ within-difference a b c d
+sloped-1 m k e h a b c d =
+    sym (mode-1 _ _ _ _ m k e h) ∙ within-difference a b c d
     ∙ ap₂ _&&_ (leb-same (suc (b + d)) (c + a) (suc (b + 1 * d)) (1 * c + a) (λ l. omega arith) (λ l. omega arith))
     (leb-same (c + b) (a + d) (c + 1 * b) (1 * a + d) (λ l. omega arith) (λ l. omega arith))
 
-pub sloped-3 : (m : ℕ) → m ≡ 3 → Sloped m 2
+pub sloped-3 : (m k : ℕ) → k ≡ column m → k ≡ 3 → Sloped m 2
 unfolding inFirst
-sloped-3 m h a b c d =
-    mode-3 _ _ _ _ m h
+sloped-3 m k e h a b c d =
+    sym (mode-3 _ _ _ _ m k e h)
     ∙ ap₂ within45 (ap (λ (x : ℤ). x +ℤ subℕ c d) (triple-difference a b) ∙ sum-difference (3 * a) (3 * b) c d)
     (ap₂ _+ℤ_ (triple-difference c d) (negated-difference a b) ∙ sum-difference (3 * c) (3 * d) b a)
     ∙ within-difference (3 * a + c) (3 * b + d) (3 * c + b) (3 * d + a)
@@ -213,33 +218,33 @@ module _ (m n a b : ℕ) (e : Sloped m n) where
       turn-near 3 (not-r m sloped _ (suc a) 0 b 0 (is-0 m a b) (omega arith)) refl refl (inside m sloped _ b 0 0 (suc a) (is-3 m a b) (omega arith) (omega arith))
 
 -- the turn that lies in the first region, in modes 2 and 4
-module _ (m a b : ℕ) where
-  pub turn-2 : m ≡ 2 → Turn m (base m a b) 0
+module _ (m k a b : ℕ) (e : k ≡ column m) where
+  pub turn-2 : k ≡ 2 → Turn m (base m a b) 0
   turn-2 h =
-      let k = region-2 m h in
+      let r = region-2 m k e h in
       record {
-        at-0 = inside m k _ (suc a) 0 b 0 (is-0 m a b) (omega arith) (omega arith);
-        at-1 = not-r m k _ 0 b (suc a) 0 (is-1 m a b) (omega arith);
-        at-2 = not-r m k _ 0 (suc a) 0 b (is-2 m a b) (omega arith);
-        at-3 = not-p m k _ b 0 0 (suc a) (is-3 m a b) (omega arith);
+        at-0 = inside m r _ (suc a) 0 b 0 (is-0 m a b) (omega arith) (omega arith);
+        at-1 = not-r m r _ 0 b (suc a) 0 (is-1 m a b) (omega arith);
+        at-2 = not-r m r _ 0 (suc a) 0 b (is-2 m a b) (omega arith);
+        at-3 = not-p m r _ b 0 0 (suc a) (is-3 m a b) (omega arith);
       }
 
-  pub turn-4 : 1 < m → (m ≡ 2 → ⊥) → (m ≡ 3 → ⊥) → 0 < b → Turn m (base m a b) 0
+  pub turn-4 : 1 < k → (k ≡ 2 → ⊥) → (k ≡ 3 → ⊥) → 0 < b → Turn m (base m a b) 0
   turn-4 h f g l =
-      let k = region-4 m h f g in
+      let r = region-4 m k e h f g in
       record {
-        at-0 = inside m k _ (suc a) 0 b 0 (is-0 m a b) (omega arith) (omega arith);
-        at-1 = not-p m k _ 0 b (suc a) 0 (is-1 m a b) (omega arith);
-        at-2 = not-p m k _ 0 (suc a) 0 b (is-2 m a b) (omega arith);
-        at-3 = not-r m k _ b 0 0 (suc a) (is-3 m a b) (omega arith);
+        at-0 = inside m r _ (suc a) 0 b 0 (is-0 m a b) (omega arith) (omega arith);
+        at-1 = not-p m r _ 0 b (suc a) 0 (is-1 m a b) (omega arith);
+        at-2 = not-p m r _ 0 (suc a) 0 b (is-2 m a b) (omega arith);
+        at-3 = not-r m r _ b 0 0 (suc a) (is-3 m a b) (omega arith);
       }
 
-  pub turn-4-axis : 1 < m → (m ≡ 2 → ⊥) → (m ≡ 3 → ⊥) → b ≡ 0 → Turn m (base m a b) 1
+  pub turn-4-axis : 1 < k → (k ≡ 2 → ⊥) → (k ≡ 3 → ⊥) → b ≡ 0 → Turn m (base m a b) 1
   turn-4-axis h f g l =
-      let k = region-4 m h f g in
+      let r = region-4 m k e h f g in
       record {
-        at-0 = not-r m k _ (suc a) 0 b 0 (is-0 m a b) (omega arith);
-        at-1 = inside m k _ 0 b (suc a) 0 (is-1 m a b) (omega arith) (omega arith);
-        at-2 = not-p m k _ 0 (suc a) 0 b (is-2 m a b) (omega arith);
-        at-3 = not-r m k _ b 0 0 (suc a) (is-3 m a b) (omega arith);
+        at-0 = not-r m r _ (suc a) 0 b 0 (is-0 m a b) (omega arith);
+        at-1 = inside m r _ 0 b (suc a) 0 (is-1 m a b) (omega arith) (omega arith);
+        at-2 = not-p m r _ 0 (suc a) 0 b (is-2 m a b) (omega arith);
+        at-3 = not-r m r _ b 0 0 (suc a) (is-3 m a b) (omega arith);
       }

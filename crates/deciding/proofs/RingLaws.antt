@@ -14,11 +14,11 @@ use lib.Signed.{ltZ}
 use mir.Syntax.{w16}
 use mir.Val.{toZ, ofZ}
 use Rattle.line.specs.Table.{below, every}
-use Rattle.line.specs.Mode.{byMode}
+use Rattle.line.specs.Mode.{column, byMode}
 use Rattle.line.specs.Point.{at, isOrigin}
 use Rattle.deciding.specs.Decide.{State, Origin, decide}
 use Rattle.deciding.specs.Sizes.{bitOf, belowOf, quadrantOf, sq, farOf, ringOf, ringIndex}
-use Rattle.line.proofs.ByMode.{mode-4}
+use Rattle.line.proofs.ByMode.{same-column, mode-1, mode-2, mode-3, mode-4}
 use Rattle.line.proofs.TableLaws.{pairs-below}
 use Rattle.deciding.proofs.Arcs.{arc, state1, state2, ring3, state3, ring4, outerSize, state4, stateArc}
 use Rattle.deciding.proofs.SizeLaws.{not-zero, arc-decide}
@@ -36,7 +36,7 @@ part k t u = cond (eqb (k % 2) 0) (2 * bitOf u + bitOf t) (2 * bitOf t + bitOf u
 abbrev inRing : ℕ → ℕ → ℕ → Bool → Bool → ℕ
 inRing m q k t u = getD (ringOf m) (quad q + part k t u) 0
 
--- one computed test: all modes, all quarters, and both answers of both tests
+-- one computed test: all columns, all quarters, and both answers of both tests
 abbrev Alike : (ℕ → ℕ → Bool → Bool → ℕ) → (ℕ → ℕ → Bool → Bool → ℕ) → Bool → Bool → Type 0
 Alike f g t u = T (every (λ m. every (λ k. eqb (f m k t u) (g m k t u)) (below 4)) (below 5))
 
@@ -92,51 +92,96 @@ on-ring : (m k : ℕ) → m < 5 → k < 4 → (u : Bool) → axisState m k u ≡
 unfolding axisState axisFar ringOf bySector ring3 ring4
 on-ring m k h l u = each (λ n j a b. axisState n j b) (λ n j a b. inRing n ((j + 3) % 4) j false (axisFar n b)) tt tt tt tt m k h l true u
 
--- a number past 4 reads mode 4's column
-high : (n q k a b : ℕ) → let m : ℕ = suc (suc (suc (suc n))) in inRing 4 q k (leb 2048 b) (leb 2048 a) ≡ inRing m q k (farOf m a b) (farOf m b a)
-unfolding ringOf farOf
-high n q k a b =
-    let m : ℕ = suc (suc (suc (suc n))) in
-    let f : m ≡ 2 → ⊥ = λ e. omega arith in
-    let g : m ≡ 3 → ⊥ = λ e. omega arith in
-    let r : ringOf 4 ≡ ringOf m = sym (mode-4 _ _ _ _ m (omega arith) f g) in
-    let t : leb 2048 b ≡ farOf m a b = sym (mode-4 _ _ _ _ m (omega arith) f g) in
-    let u : leb 2048 a ≡ farOf m b a = sym (mode-4 _ _ _ _ m (omega arith) f g) in
-    ap (λ (x : List ℕ). getD x (quad q + part k (leb 2048 b) (leb 2048 a)) 0) r ∙ ap₂ (λ (x y : Bool). inRing m q k x y) t u
+-- an arc's state is found in the mode's ring
+abbrev InRing : ℕ → ℕ → ℕ → ℕ → ℕ → Type 0
+InRing m q k a b = stateArc m (arc k a b) ≡ inRing m q k (farOf m a b) (farOf m b a)
 
-arc-high : (n : ℕ) (k a b : ℕ) → let m : ℕ = suc (suc (suc (suc n))) in stateArc m (arc k a b) ≡ state4 (arc k a b)
-unfolding stateArc
-arc-high n k a b = mode-4 _ _ _ _ (suc (suc (suc (suc n)))) (omega arith) (λ e. omega arith) (λ e. omega arith)
+-- by the column j that the mode reads: its state of the arc, its ring and its tests
+by-column : (m j q k a b s : ℕ) (t u : Bool) → s ≡ stateArc m (arc k a b) → s ≡ inRing j q k t u → ringOf j ≡ ringOf m → t ≡ farOf m a b → u ≡ farOf m b a
+    → InRing m q k a b
+by-column m j q k a b s t u e i r f g =
+    sym e ∙ i ∙ ap (λ (x : List ℕ). getD x (quad q + part k t u) 0) r ∙ ap₂ (λ (x y : Bool). inRing m q k x y) f g
 
-arc-in : (m k a b : ℕ) → k < 4 → stateArc m (arc k (suc a) (suc b)) ≡ inRing m k k (farOf m (suc a) (suc b)) (farOf m (suc b) (suc a))
+arc-in : (m k a b : ℕ) → k < 4 → InRing m k k (suc a) (suc b)
 unfolding stateArc farOf ringOf state1 state3 state4 outerSize arcState
-arc-in zero k a b l =
-    ap (λ (n : ℕ). (k + n) % 4 * 2) (not-past (suc a) (suc b)) ∙ in-ring 0 k (omega arith) l (ltb (suc a) (suc b)) (ltb (suc b) (suc a))
-arc-in (suc zero) k a b l = arc-in zero k a b l
-arc-in (suc (suc zero)) k a b l =
-    sector-state k (suc a) (suc b)
-    ∙ in-ring 2 k (omega arith) l (ltb (sq (suc a + suc b)) (2 * sq (suc b))) (ltb (sq (suc b + suc a)) (2 * sq (suc a)))
-arc-in (suc (suc (suc zero))) k a b l =
-    ap (λ (n : ℕ). getD ring3 ((k + n) % 4) 0) (not-past (2 * suc a) (suc b)) ∙ in-ring 3 k (omega arith) l (ltb (2 * suc a) (suc b)) (ltb (2 * suc b) (suc a))
-arc-in (suc (suc (suc (suc n)))) k a b l =
-    arc-high n k (suc a) (suc b)
-    ∙ rw (not-zero b) (in-ring 4 k (omega arith) l (leb 2048 (suc b)) (leb 2048 (suc a))) ∙ high n k k (suc a) (suc b)
+arc-in m k a b l = go (column m) refl
+  where
+    low : (n : ℕ) → n ≡ column m → n ≤ 1 → InRing m k k (suc a) (suc b)
+    low n c h =
+        by-column m 1 k k (suc a) (suc b) _ _ _ (mode-1 _ _ _ _ m n c h)
+        (ap (λ (i : ℕ). (k + i) % 4 * 2) (not-past (suc a) (suc b)) ∙ in-ring 1 k (omega arith) l (ltb (suc a) (suc b)) (ltb (suc b) (suc a)))
+        (mode-1 _ _ _ _ m n c h) (mode-1 _ _ _ _ m n c h) (mode-1 _ _ _ _ m n c h)
 
-arc-on : (m k a : ℕ) → k < 4 → stateArc m (arc k (suc a) 0) ≡ inRing m ((k + 3) % 4) k (farOf m (suc a) 0) (farOf m 0 (suc a))
+    go : (n : ℕ) → n ≡ column m → InRing m k k (suc a) (suc b)
+    go zero c = low 0 c (omega arith)
+    go (suc zero) c = low 1 c (omega arith)
+    go (suc (suc zero)) c =
+        by-column m 2 k k (suc a) (suc b) _ _ _ (mode-2 _ _ _ _ m 2 c refl)
+        (sector-state k (suc a) (suc b)
+        ∙ in-ring 2 k (omega arith) l (ltb (sq (suc a + suc b)) (2 * sq (suc b))) (ltb (sq (suc b + suc a)) (2 * sq (suc a))))
+        (mode-2 _ _ _ _ m 2 c refl) (mode-2 _ _ _ _ m 2 c refl) (mode-2 _ _ _ _ m 2 c refl)
+    go (suc (suc (suc zero))) c =
+        by-column m 3 k k (suc a) (suc b) _ _ _ (mode-3 _ _ _ _ m 3 c refl)
+        (ap (λ (i : ℕ). getD ring3 ((k + i) % 4) 0) (not-past (2 * suc a) (suc b)) ∙ in-ring 3 k (omega arith) l (ltb (2 * suc a) (suc b)) (ltb (2 * suc b) (suc a)))
+        (mode-3 _ _ _ _ m 3 c refl) (mode-3 _ _ _ _ m 3 c refl) (mode-3 _ _ _ _ m 3 c refl)
+    go (suc (suc (suc (suc i)))) c =
+        let n : ℕ = suc (suc (suc (suc i))) in
+        let h : 1 < n = omega arith in
+        let f : n ≡ 2 → ⊥ = λ e. omega arith in
+        let g : n ≡ 3 → ⊥ = λ e. omega arith in
+        let r : state4 (arc k (suc a) (suc b)) ≡ inRing 4 k k (leb 2048 (suc b)) (leb 2048 (suc a)) =
+        rw (not-zero b) (in-ring 4 k (omega arith) l (leb 2048 (suc b)) (leb 2048 (suc a))) in
+        by-column m 4 k k (suc a) (suc b) _ _ _ (mode-4 _ _ _ _ m n c h f g) r
+        (mode-4 _ _ _ _ m n c h f g) (mode-4 _ _ _ _ m n c h f g) (mode-4 _ _ _ _ m n c h f g)
+
+arc-on : (m k a : ℕ) → k < 4 → InRing m ((k + 3) % 4) k (suc a) 0
 unfolding stateArc farOf ringOf state1 state3 state4 outerSize axisState axisFar
-arc-on zero k a l =
-    rw (le-leb 0 (suc a) (omega arith), le-ltb (suc a) 0 (omega arith), lt-ltb 0 (suc a) (omega arith)) (on-ring 0 k (omega arith) l true)
-arc-on (suc zero) k a l = arc-on zero k a l
-arc-on (suc (suc zero)) k a l =
-    let p : 0 < suc a * suc a = mul-pos (omega arith) (omega arith) in
-    sector-state k (suc a) 0
-    ∙ ap₂ (λ (t u : Bool). bySector k t u) (le-ltb (sq (suc a + 0)) (2 * sq 0) (omega arith)) (lt-ltb (sq (0 + suc a)) (2 * sq (suc a)) (omega arith))
-    ∙ on-ring 2 k (omega arith) l true
-    ∙ ap₂ (λ (t u : Bool). inRing 2 ((k + 3) % 4) k t u) (sym (le-ltb (sq (suc a + 0)) (2 * sq 0) (omega arith))) (sym (lt-ltb (sq (0 + suc a)) (2 * sq (suc a)) (omega arith)))
-arc-on (suc (suc (suc zero))) k a l =
-    rw (le-leb 0 (2 * suc a) (omega arith), le-ltb (2 * suc a) 0 (omega arith), lt-ltb 0 (suc a) (omega arith)) (on-ring 3 k (omega arith) l true)
-arc-on (suc (suc (suc (suc n)))) k a l =
-    arc-high n k (suc a) 0 ∙ on-ring 4 k (omega arith) l (leb 2048 (suc a)) ∙ high n ((k + 3) % 4) k (suc a) 0
+arc-on m k a l = go (column m) refl
+  where
+    low : (n : ℕ) → n ≡ column m → n ≤ 1 → InRing m ((k + 3) % 4) k (suc a) 0
+    low n c h =
+        let r : state1 (arc k (suc a) 0) ≡ inRing 1 ((k + 3) % 4) k (ltb (suc a) 0) (ltb 0 (suc a)) =
+        rw (le-leb 0 (suc a) (omega arith), le-ltb (suc a) 0 (omega arith), lt-ltb 0 (suc a) (omega arith)) (on-ring 1 k (omega arith) l true) in
+        by-column m 1 ((k + 3) % 4) k (suc a) 0 _ _ _ (mode-1 _ _ _ _ m n c h) r (mode-1 _ _ _ _ m n c h) (mode-1 _ _ _ _ m n c h) (mode-1 _ _ _ _ m n c h)
+
+    go : (n : ℕ) → n ≡ column m → InRing m ((k + 3) % 4) k (suc a) 0
+    go zero c = low 0 c (omega arith)
+    go (suc zero) c = low 1 c (omega arith)
+    go (suc (suc zero)) c =
+        let p : 0 < suc a * suc a = mul-pos (omega arith) (omega arith) in
+        let t : ltb (sq (suc a + 0)) (2 * sq 0) ≡ false = le-ltb (sq (suc a + 0)) (2 * sq 0) (omega arith) in
+        let u : ltb (sq (0 + suc a)) (2 * sq (suc a)) ≡ true = lt-ltb (sq (0 + suc a)) (2 * sq (suc a)) (omega arith) in
+        by-column m 2 ((k + 3) % 4) k (suc a) 0 _ _ _ (mode-2 _ _ _ _ m 2 c refl)
+        (sector-state k (suc a) 0 ∙ ap₂ (λ (x y : Bool). bySector k x y) t u ∙ on-ring 2 k (omega arith) l true)
+        (mode-2 _ _ _ _ m 2 c refl) (sym t ∙ mode-2 _ _ _ _ m 2 c refl) (sym u ∙ mode-2 _ _ _ _ m 2 c refl)
+    go (suc (suc (suc zero))) c =
+        let r : state3 (arc k (suc a) 0) ≡ inRing 3 ((k + 3) % 4) k (ltb (2 * suc a) 0) (ltb (2 * 0) (suc a)) =
+        rw (le-leb 0 (2 * suc a) (omega arith), le-ltb (2 * suc a) 0 (omega arith), lt-ltb 0 (suc a) (omega arith)) (on-ring 3 k (omega arith) l true) in
+        by-column m 3 ((k + 3) % 4) k (suc a) 0 _ _ _ (mode-3 _ _ _ _ m 3 c refl) r (mode-3 _ _ _ _ m 3 c refl) (mode-3 _ _ _ _ m 3 c refl) (mode-3 _ _ _ _ m 3 c refl)
+    go (suc (suc (suc (suc i)))) c =
+        let n : ℕ = suc (suc (suc (suc i))) in
+        let h : 1 < n = omega arith in
+        let f : n ≡ 2 → ⊥ = λ e. omega arith in
+        let g : n ≡ 3 → ⊥ = λ e. omega arith in
+        by-column m 4 ((k + 3) % 4) k (suc a) 0 _ _ _ (mode-4 _ _ _ _ m n c h f g) (on-ring 4 k (omega arith) l (leb 2048 (suc a)))
+        (mode-4 _ _ _ _ m n c h f g) (mode-4 _ _ _ _ m n c h f g) (mode-4 _ _ _ _ m n c h f g)
+
+-- by a mode's column the ring and the place in it are the mode's
+module _ (m k : ℕ) (f : k ≡ column m) where
+  pub ring-column : ringOf k ≡ ringOf m
+  unfolding ringOf
+  ring-column = same-column _ _ _ _ m k f
+
+  far-column : (x y : ℕ) → farOf k x y ≡ farOf m x y
+  unfolding farOf
+  far-column x y = same-column _ _ _ _ m k f
+
+  pub index-column : (re im : ℤ) → ringIndex k re im ≡ ringIndex m re im
+  unfolding ringIndex
+  index-column re im = ap₂ (λ (t u : Bool). quadrantOf re im + (2 * bitOf t + bitOf u)) (far-column _ _) (far-column _ _)
+
+  pub state-column : (re im : ℤ) → getD (ringOf k) (ringIndex k re im) 0 ≡ getD (ringOf m) (ringIndex m re im) 0
+  state-column re im = ap₂ (λ (l : List ℕ) (i : ℕ). getD l i 0) ring-column (index-column re im)
 
 -- A POINT IN THE RING
 

@@ -42,19 +42,19 @@ fn below(x: i16, one: bool) -> bool
     x < one_if(one)
 }
 
-// Whether the size y is the larger one by the mode's measure: past the edge between the states of an axis and those beside it, or
-// in mode 4 of level 3.
-fn far(mode: u8, x: u32, y: u32) -> bool
-    requires { ⌜ (x ≤ 32768) × (y ≤ 32768) ⌝ }
-    ensures { λ r. ⌜ r ≡ farOf mode x y ⌝ }
+// Whether the size y is the larger one by the measure of the mode's column: past the edge between the states of an axis and those
+// beside it, or in mode 4 of level 3.
+fn far(c: u8, x: u32, y: u32) -> bool
+    requires { ⌜ (c ≤ 4) × (x ≤ 32768) × (y ≤ 32768) ⌝ }
+    ensures { λ r. ⌜ r ≡ farOf c x y ⌝ }
 {
-    if mode <= 1 {
+    if c <= 1 {
         x < y
-    } else if mode == 2 {
+    } else if c == 2 {
         let a = x as u64;
         let b = y as u64;
         (a + b) * (a + b) < 2 * (b * b)
-    } else if mode == 3 {
+    } else if c == 3 {
         2 * x < y
     } else {
         2048 <= y
@@ -70,19 +70,27 @@ const RING3: [u8; 16] = [13, 9, 13, 9, 9, 9, 1, 1, 5, 5, 13, 13, 1, 5, 1, 5];
 
 const RING4: [u8; 16] = [12, 14, 13, 15, 8, 9, 10, 11, 4, 5, 6, 7, 0, 2, 1, 3];
 
-// The ring of a mode. A caller binds it once before a loop: a constant is built anew at each use.
-pub fn ring_of(mode: u8) -> [u8; 16]
-    ensures { λ r. ⌜ r ≡ ringOf mode ⌝ }
+// The ring of a mode, by its column.
+fn ring_in(c: u8) -> [u8; 16]
+    requires { ⌜ c ≤ 4 ⌝ }
+    ensures { λ r. ⌜ r ≡ ringOf c ⌝ }
 {
-    if mode <= 1 {
+    if c <= 1 {
         RING1
-    } else if mode == 2 {
+    } else if c == 2 {
         RING2
-    } else if mode == 3 {
+    } else if c == 3 {
         RING3
     } else {
         RING4
     }
+}
+
+// The ring of a mode. A caller binds it once before a loop: a constant is built anew at each use.
+pub fn ring_of(mode: u8) -> [u8; 16]
+    ensures { λ r. ⌜ r ≡ ringOf mode ⌝ }
+{
+    ring_in(line::column_of(mode))
 }
 
 // Whether a point is the origin, which is no state.
@@ -92,33 +100,42 @@ pub fn is_origin(re: i16, im: i16) -> bool
     (size(re) == 0) & (size(im) == 0)
 }
 
-// The state of a point off the origin, by its mode's ring, which the law `looked-up` asks for. There is one formula for all modes.
-pub fn state_at(mode: u8, ring: &[u8; 16], re: i16, im: i16) -> u8
-    ensures { λ r. ⌜ r ≡ getD (now (ring .entry)) (ringIndex mode re im) 0 ⌝ }
+// The state of a point off the origin, by its mode's column and ring. There is one formula for all modes.
+fn state_in(c: u8, ring: &[u8; 16], re: i16, im: i16) -> u8
+    requires { ⌜ c ≤ 4 ⌝ }
+    ensures { λ r. ⌜ r ≡ getD (now (ring .entry)) (ringIndex c re im) 0 ⌝ }
 {
     let x = size(re);
     let y = size(im);
     let down = bit(below(im, !below(re, true)));
     let left = bit(below(re, below(im, false)));
-    ring[8 * down + 4 * left + (2 * bit(far(mode, y, x)) + bit(far(mode, x, y)))]
+    ring[8 * down + 4 * left + (2 * bit(far(c, y, x)) + bit(far(c, x, y)))]
 }
 
-// The same by the mode alone. Each mode has a way of its own, so that no ring is copied and no test asks for the mode again.
-fn state_of(mode: u8, re: i16, im: i16) -> u8
-    ensures { λ r. ⌜ r ≡ getD (ringOf mode) (ringIndex mode re im) 0 ⌝ }
+// The same by the mode and its ring, which the law `looked-up` asks for.
+pub fn state_at(mode: u8, ring: &[u8; 16], re: i16, im: i16) -> u8
+    ensures { λ r. ⌜ r ≡ getD (now (ring .entry)) (ringIndex mode re im) 0 ⌝ }
 {
-    if mode <= 1 {
+    state_in(line::column_of(mode), ring, re, im)
+}
+
+// The same by the column alone. Each has a way of its own, so that no ring is copied and no test asks for the column again.
+fn state_of(c: u8, re: i16, im: i16) -> u8
+    requires { ⌜ c ≤ 4 ⌝ }
+    ensures { λ r. ⌜ r ≡ getD (ringOf c) (ringIndex c re im) 0 ⌝ }
+{
+    if c <= 1 {
         let ring = RING1;
-        state_at(mode, &ring, re, im)
-    } else if mode == 2 {
+        state_in(c, &ring, re, im)
+    } else if c == 2 {
         let ring = RING2;
-        state_at(mode, &ring, re, im)
-    } else if mode == 3 {
+        state_in(c, &ring, re, im)
+    } else if c == 3 {
         let ring = RING3;
-        state_at(mode, &ring, re, im)
+        state_in(c, &ring, re, im)
     } else {
         let ring = RING4;
-        state_at(mode, &ring, re, im)
+        state_in(c, &ring, re, im)
     }
 }
 
@@ -155,6 +172,6 @@ pub fn decide(mode: u8, re: i16, im: i16) -> Decision
     if is_origin(re, im) {
         return Decision::Origin;
     }
-    let s = state_of(mode, re, im);
+    let s = state_of(line::column_of(mode), re, im);
     Decision::State(s, distance(mode, s, re, im))
 }

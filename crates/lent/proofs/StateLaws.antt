@@ -37,8 +37,8 @@ state-back b m role x y h n l i j =
       role-of = at 1 (omega arith);
       second = at 2 (omega arith);
       third = at 3 (omega arith);
-      line = rw (at 4 (omega arith), at 5 (omega arith), at 6 (omega arith), at 7 (omega arith), at 8 (omega arith), quarters (h .bits) i);
-      is-clear = rw (at 9 (omega arith), at 10 (omega arith), at 11 (omega arith));
+      line = rw (at 4 (omega arith), at 5 (omega arith), at 6 (omega arith), at 7 (omega arith), at 8 (omega arith), at 9 (omega arith), quarters (h .bits) i);
+      is-clear = rw (at 10 (omega arith), at 11 (omega arith));
       number = rw (at 12 (omega arith), at 13 (omega arith), at 14 (omega arith), at 15 (omega arith)) (quarters n j);
     }
   where

@@ -1,6 +1,6 @@
 -- What the receiver's and the sender's calls for C share: a state is 16 lent bytes; lent bytes beyond them stay as they are.
---   0 mode, 1 role, 2 and 3 as each of them says, 4 the register's line bits (u32, newest lowest), 8 their count, 9 to 11 zero,
---   12 a number (u32); numbers little-endian
+--   0 mode, 1 role, 2 and 3 as each of them says, 4 the register's line bits (u32, newest lowest), 8 how many they are, 9 the guard's
+--   count (document 02, R-6), 10 and 11 zero, 12 a number (u32); numbers little-endian
 use Prim.Native.Nat.{ℕ}
 use mathlib.Core.Bool.{Bool, _&&_}
 use mathlib.Core.List.{List, [], _∷_, _++_}
@@ -14,14 +14,14 @@ use Rattle.scrambler.specs.Register.{register}
 -- THE REGISTER: bytes 4 to 11
 
 abbrev pub registerIn : List ℕ → Register
-registerIn s = register (u32 s 4) (getD s 8 0)
+registerIn s = register (u32 s 4) (getD s 8 0) (getD s 9 0)
 
 -- the bytes after the register are zero
 abbrev pub clear : List ℕ → Bool
-clear s = eqb (getD s 9 0) 0 && (eqb (getD s 10 0) 0 && eqb (getD s 11 0) 0)
+clear s = eqb (getD s 10 0) 0 && eqb (getD s 11 0) 0
 
 abbrev pub registerOut : Register → List ℕ
-registerOut h = le32 (h .bits) ++ (h .held .0 ∷ 0 ∷ 0 ∷ 0 ∷ [])
+registerOut h = le32 (h .bits) ++ (h .held .0 ∷ h .count .0 ∷ 0 ∷ 0 ∷ [])
 
 -- A STATE, with bytes 2 and 3 and the number at 12
 

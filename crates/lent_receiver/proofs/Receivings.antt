@@ -50,19 +50,19 @@ put-law b s p x e f = ap₂ (λ (i j : ℕ). sets b 0 (stateOut (s .mode) (s .ro
 
 -- THE BYTES OF A REFERENCE
 
-module _ (s : List ℕ) (k x a b d : ℕ) (p : k ≡ getD s 2 0) (q : x ≡ getD s 3 0) (u : a ≡ getD s 9 0) (v : b ≡ getD s 10 0) (w : d ≡ getD s 11 0) where
-  pub read-state : ((eqb a 0 && (eqb b 0 && eqb d 0)) && eqb k 1) ≡ true → some x ≡ referenceIn s
+module _ (s : List ℕ) (k x b d : ℕ) (p : k ≡ getD s 2 0) (q : x ≡ getD s 3 0) (v : b ≡ getD s 10 0) (w : d ≡ getD s 11 0) where
+  pub read-state : ((eqb b 0 && eqb d 0) && eqb k 1) ≡ true → some x ≡ referenceIn s
   unfolding referenceIn
-  read-state t = rw (← p, ← q, ← u, ← v, ← w, t)
+  read-state t = rw (← p, ← q, ← v, ← w, t)
 
-  module _ (f : ((eqb a 0 && (eqb b 0 && eqb d 0)) && eqb k 1) ≡ false) where
-    pub read-none : ((eqb a 0 && (eqb b 0 && eqb d 0)) && (eqb k 0 && eqb x 0)) ≡ true → none ≡ referenceIn s
+  module _ (f : ((eqb b 0 && eqb d 0) && eqb k 1) ≡ false) where
+    pub read-none : ((eqb b 0 && eqb d 0) && (eqb k 0 && eqb x 0)) ≡ true → none ≡ referenceIn s
     unfolding referenceIn
-    read-none t = rw (← p, ← q, ← u, ← v, ← w, f, t)
+    read-none t = rw (← p, ← q, ← v, ← w, f, t)
 
-    pub read-neither : ((eqb a 0 && (eqb b 0 && eqb d 0)) && (eqb k 0 && eqb x 0)) ≡ false → some 255 ≡ referenceIn s
+    pub read-neither : ((eqb b 0 && eqb d 0) && (eqb k 0 && eqb x 0)) ≡ false → some 255 ≡ referenceIn s
     unfolding referenceIn
-    read-neither t = rw (← p, ← q, ← u, ← v, ← w, f, t)
+    read-neither t = rw (← p, ← q, ← v, ← w, f, t)
 
 -- WHAT AN OUTCOME LEAVES
 

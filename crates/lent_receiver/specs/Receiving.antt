@@ -24,7 +24,8 @@ use Rattle.lent.specs.State.{registerIn, clear, stateOut, holdsState, makingNum
 
 -- THE BYTES OF A STATE
 
--- bytes 2, 3 and 9 to 11 that are no layout read as a reference that is no state, which number 4 refuses
+-- bytes 2, 3, 10 and 11 that are no layout read as a reference that is no state, which number 4 refuses; byte 9, the guard's count of R-6,
+-- is judged with the register
 unfoldable pub referenceIn : List ℕ → Reference
 referenceIn s =
     cond (clear s && eqb (getD s 2 0) 1) (State (getD s 3 0))

@@ -42,7 +42,7 @@ fn load_reference(s: &[u8]) -> Reference
 {
     let kind = s[2];
     let state = s[3];
-    let clear = (s[9] == 0) & ((s[10] == 0) & (s[11] == 0));
+    let clear = (s[10] == 0) & (s[11] == 0);
     if clear & (kind == 1) {
         return Reference::State(state);
     }
@@ -64,6 +64,7 @@ fn load_receiver(s: &[u8]) -> Receiver
         line: Register {
             bits: word_at(s, 4),
             held: BitCount(s[8]),
+            count: BitCount(s[9]),
         },
         place: Intervals(word_at(s, 12)),
     }
@@ -103,7 +104,7 @@ fn put_receiver(b: &mut [u8], s: Receiver)
     b[6] = (bits / 65536 % 256) as u8;
     b[7] = (bits / 65536 / 256 % 256) as u8;
     b[8] = s.line.held.0;
-    b[9] = 0;
+    b[9] = s.line.count.0;
     b[10] = 0;
     b[11] = 0;
     b[12] = (place % 65536 % 256) as u8;

@@ -23,14 +23,14 @@ use Rattle.lent_sender.specs.Putting.{sentState}
 
 -- THE BYTES OF A REFERENCE
 
-module _ (s : List ℕ) (x a b d f : ℕ) (q : x ≡ getD s 3 0) (u : a ≡ getD s 9 0) (v : b ≡ getD s 10 0) (w : d ≡ getD s 11 0) (o : f ≡ u32 s 12) where
-  pub read-sent : (k : ℕ) → (eqb x 0 && ((eqb a 0 && (eqb b 0 && eqb d 0)) && eqb f 0)) ≡ true → k ≡ getD s 2 0 → k ≡ sentReference s
+module _ (s : List ℕ) (x a b f : ℕ) (q : x ≡ getD s 3 0) (u : a ≡ getD s 10 0) (v : b ≡ getD s 11 0) (o : f ≡ u32 s 12) where
+  pub read-sent : (k : ℕ) → (eqb x 0 && ((eqb a 0 && eqb b 0) && eqb f 0)) ≡ true → k ≡ getD s 2 0 → k ≡ sentReference s
   unfolding sentReference
-  read-sent k t p = rw (← q, ← u, ← v, ← w, ← o, t) p
+  read-sent k t p = rw (← q, ← u, ← v, ← o, t) p
 
-  pub read-unsent : (eqb x 0 && ((eqb a 0 && (eqb b 0 && eqb d 0)) && eqb f 0)) ≡ false → 255 ≡ sentReference s
+  pub read-unsent : (eqb x 0 && ((eqb a 0 && eqb b 0) && eqb f 0)) ≡ false → 255 ≡ sentReference s
   unfolding sentReference
-  read-unsent t = rw (← q, ← u, ← v, ← w, ← o, t)
+  read-unsent t = rw (← q, ← u, ← v, ← o, t)
 
 -- WHAT AN ANSWER LEAVES
 

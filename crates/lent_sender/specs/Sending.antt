@@ -19,7 +19,7 @@ use Rattle.lent.specs.State.{registerIn, clear, stateOut, holdsState, makingNum
 
 -- THE BYTES OF A STATE
 
--- bytes 3 and 9 to 15 that are not zero read as a reference that is no state, which number 4 refuses
+-- bytes 3 and 10 to 15 that are not zero read as a reference that is no state, which number 4 refuses
 unfoldable pub sentReference : List ℕ → ℕ
 sentReference s = cond (eqb (getD s 3 0) 0 && (clear s && eqb (u32 s 12) 0)) (getD s 2 0) 255
 

@@ -23,7 +23,7 @@ fn byte_at(s: &[u8], at: usize) -> u8
 fn load_sent_reference(s: &[u8]) -> u8
     ensures { λ r. ⌜ r ≡ sentReference (now (s .entry)) ⌝ }
 {
-    let clear = (byte_at(s, 9) == 0) & ((byte_at(s, 10) == 0) & (byte_at(s, 11) == 0));
+    let clear = (byte_at(s, 10) == 0) & (byte_at(s, 11) == 0);
     if (byte_at(s, 3) == 0) & (clear & (get32(s, 12) == 0)) {
         return byte_at(s, 2);
     }
@@ -40,6 +40,7 @@ fn load_sender(s: &[u8]) -> Sender
         line: Register {
             bits: get32(s, 4) as u32,
             held: BitCount(byte_at(s, 8)),
+            count: BitCount(byte_at(s, 9)),
         },
     }
 }
@@ -58,7 +59,7 @@ fn sender_bytes(s: Sender) -> [u8; 16]
         (bits / 65536 % 256) as u8,
         (bits / 65536 / 256 % 256) as u8,
         s.line.held.0,
-        0,
+        s.line.count.0,
         0,
         0,
         0,

@@ -11,7 +11,7 @@ use lib.ListN.{length, getD, take, drop, length-drop}
 use lib.Seq.{drop-cons}
 use Rattle.line.specs.declared.Point.{Point}
 use Rattle.line.specs.Table.{Tabled}
-use Rattle.line.specs.Mode.{byMode}
+use Rattle.line.specs.Mode.{column, byMode}
 use Rattle.line.proofs.ByMode.{mode-short, mode-long}
 use Rattle.line.specs.Point.{at, pairs, coordinateIn, sent27, levels32, sent32, sentPoint}
 
@@ -57,14 +57,14 @@ sent-round m s =
     (let e : s % 16 % 8 ≡ s % 8 = omega arith in e) (let e : s % 16 % 16 ≡ s % 16 = omega arith in e)
 
 -- the constellations of the two families
-pub short-point : (m s : ℕ) → m ≤ 2 → getD sent27 (s % 8) (at (pos 0) (pos 0)) ≡ sentPoint m s
+pub short-point : (m k s : ℕ) → k ≡ column m → k ≤ 2 → getD sent27 (s % 8) (at (pos 0) (pos 0)) ≡ sentPoint m s
 unfolding sentPoint
-short-point m s h = sym (mode-short _ _ m h)
+short-point m k s e h = mode-short _ _ m k e h
 
-pub long-points : (m : ℕ) → 2 < m → Tabled 16 (sentPoint m) (at (pos 0) (pos 0)) sent32
+pub long-points : (m k : ℕ) → k ≡ column m → 2 < k → Tabled 16 (sentPoint m) (at (pos 0) (pos 0)) sent32
 unfolding sentPoint
-long-points m h =
+long-points m k e h =
     record {
       size = unfold sent32 levels32 in refl;
-      at = λ i l. ap (λ (k : ℕ). getD sent32 k (at (pos 0) (pos 0))) (let e : i ≡ i % 16 = omega arith in e) ∙ sym (mode-long _ _ m h);
+      at = λ i l. ap (λ (k : ℕ). getD sent32 k (at (pos 0) (pos 0))) (let e : i ≡ i % 16 = omega arith in e) ∙ mode-long _ _ m k e h;
     }

@@ -10,7 +10,7 @@ use lib.Dec.{T, eqb, ltb, leb, eqb→eq, ltb→lt, leb→le}
 use lib.ListN.{getD}
 use Rattle.line.specs.declared.Point.{Point}
 use Rattle.line.specs.Table.{member, below, every}
-use Rattle.line.specs.Mode.{isMode, step, states, isState, quadrant, nextQuadrant, turn, turns, quarterSteps, wholeSteps}
+use Rattle.line.specs.Mode.{column, isMode, step, states, isState, quadrant, nextQuadrant, turn, turns, quarterSteps, wholeSteps}
 use Rattle.line.specs.Point.{inRange, isOrigin, turned, sent27, levels32, sent32, sentPoint, SentTurned}
 use Rattle.line.proofs.ByMode.{mode-1, mode-2, mode-3, mode-4}
 use Rattle.line.proofs.TableLaws.{and-right, every-at, below-at, all, test-at, no-so, alike, alike-eq}
@@ -28,41 +28,48 @@ test-is-member f l n t u v s = go (decLt s n)
 from-limit : (n : ℕ) (g : ℕ → Bool) (s : ℕ) → n ≤ s → ltb s n && g s ≡ false
 from-limit n g s h = ap (λ (b : Bool). b && g s) (le-ltb s n h)
 
-module _ (m s : ℕ) where
-  pub states-1 : m ≤ 1 → ltb s 8 && eqb (s % 2) 0 ≡ isState m s
+-- k is the mode's column, as the code found it
+module _ (m k s : ℕ) (e : k ≡ column m) where
+  pub states-1 : k ≤ 1 → ltb s 8 && eqb (s % 2) 0 ≡ isState m s
   unfolding states isState
   states-1 h =
       test-is-member (λ x. ltb x 8 && eqb (x % 2) 0) (0 ∷ 2 ∷ 4 ∷ 6 ∷ []) 8 tt tt (from-limit 8 (λ x. eqb (x % 2) 0)) s
-      ∙ ap (member s) (sym (mode-1 _ _ _ _ m h))
+      ∙ ap (member s) (mode-1 _ _ _ _ m k e h)
 
-  pub states-2 : m ≡ 2 → ltb s 8 ≡ isState m s
+  pub states-2 : k ≡ 2 → ltb s 8 ≡ isState m s
   unfolding states isState
-  states-2 h = test-is-member (λ x. ltb x 8) (below 8) 8 tt tt (λ x. le-ltb x 8) s ∙ ap (member s) (sym (mode-2 _ _ _ _ m h))
+  states-2 h = test-is-member (λ x. ltb x 8) (below 8) 8 tt tt (λ x. le-ltb x 8) s ∙ ap (member s) (mode-2 _ _ _ _ m k e h)
 
-  pub states-3 : m ≡ 3 → ltb s 16 && eqb (s % 4) 1 ≡ isState m s
+  pub states-3 : k ≡ 3 → ltb s 16 && eqb (s % 4) 1 ≡ isState m s
   unfolding states isState
   states-3 h =
       test-is-member (λ x. ltb x 16 && eqb (x % 4) 1) (1 ∷ 5 ∷ 13 ∷ 9 ∷ []) 16 tt tt (from-limit 16 (λ x. eqb (x % 4) 1)) s
-      ∙ ap (member s) (sym (mode-3 _ _ _ _ m h))
+      ∙ ap (member s) (mode-3 _ _ _ _ m k e h)
 
-  pub states-4 : 1 < m → (m ≡ 2 → ⊥) → (m ≡ 3 → ⊥) → ltb s 16 ≡ isState m s
+  pub states-4 : 1 < k → (k ≡ 2 → ⊥) → (k ≡ 3 → ⊥) → ltb s 16 ≡ isState m s
   unfolding states isState
-  states-4 h p q = test-is-member (λ x. ltb x 16) (below 16) 16 tt tt (λ x. le-ltb x 16) s ∙ ap (member s) (sym (mode-4 _ _ _ _ m h p q))
+  states-4 h p q = test-is-member (λ x. ltb x 16) (below 16) 16 tt tt (λ x. le-ltb x 16) s ∙ ap (member s) (mode-4 _ _ _ _ m k e h p q)
 
 -- EACH MODE AND EACH STATE
 
--- what holds of the four modes holds of every mode
-pub mode-cases : (P : ℕ → Type 0) → P 1 → P 2 → P 3 → P 4 → (m : ℕ) → T (isMode m) → P m
+-- what holds of the six modes holds of every mode
+pub mode-cases : (P : ℕ → Type 0) → P 1 → P 2 → P 3 → P 4 → P 5 → P 6 → (m : ℕ) → T (isMode m) → P m
 unfolding isMode
-mode-cases P a b c d zero h = absurd h
-mode-cases P a b c d (suc zero) h = a
-mode-cases P a b c d (suc (suc zero)) h = b
-mode-cases P a b c d (suc (suc (suc zero))) h = c
-mode-cases P a b c d (suc (suc (suc (suc zero)))) h = d
-mode-cases P a b c d (suc (suc (suc (suc (suc n))))) h =
-    let m : ℕ = suc (suc (suc (suc (suc n)))) in
-    let l : m ≤ 4 = leb→le m 4 (and-right (leb 1 m) (leb m 4) h) in
+mode-cases P a b c d e f zero h = absurd h
+mode-cases P a b c d e f (suc zero) h = a
+mode-cases P a b c d e f (suc (suc zero)) h = b
+mode-cases P a b c d e f (suc (suc (suc zero))) h = c
+mode-cases P a b c d e f (suc (suc (suc (suc zero)))) h = d
+mode-cases P a b c d e f (suc (suc (suc (suc (suc zero))))) h = e
+mode-cases P a b c d e f (suc (suc (suc (suc (suc (suc zero)))))) h = f
+mode-cases P a b c d e f (suc (suc (suc (suc (suc (suc (suc n))))))) h =
+    let m : ℕ = suc (suc (suc (suc (suc (suc (suc n)))))) in
+    let l : m ≤ 6 = leb→le m 6 (and-right (leb 1 m) (leb m 6) h) in
     absurd (omega arith)
+
+-- what reads a mode by its column alone holds of every mode if it does of the four columns: a proof for 1 is one for 5, and one for 2 for 6
+pub column-cases : (P : ℕ → Type 0) → P 1 → P 2 → P 3 → P 4 → (P 1 → P 5) → (P 2 → P 6) → (m : ℕ) → T (isMode m) → P m
+column-cases P a b c d e f m h = mode-cases P a b c d (e a) (f b) m h
 
 -- a test of each state of a mode, at one of them
 pub state-at : (m : ℕ) (f : ℕ → Bool) → T (every f (states m)) → (x : ℕ) → T (isState m x) → T (f x)
@@ -76,7 +83,7 @@ stateTests m x =
 
 tests : (m : ℕ) → T (isMode m) → T (every (λ x. all (stateTests m x)) (states m))
 unfolding stateTests states isState quadrant nextQuadrant step turn wholeSteps inRange isOrigin sent27 levels32 sent32 sentPoint
-tests = mode-cases (λ m. T (every (λ x. all (stateTests m x)) (states m))) tt tt tt tt
+tests = mode-cases (λ m. T (every (λ x. all (stateTests m x)) (states m))) tt tt tt tt tt tt
 
 pub record OfState (m x : ℕ) : Type 0 where
   pub turned : T (isState m (turn m x))
@@ -103,7 +110,7 @@ turns-add m (suc i) j s = ap (turn m) (turns-add m i j s) ∙ ap (λ (n : ℕ). 
 
 pub four-quarters : (m : ℕ) → T (isMode m) → 4 * quarterSteps m ≡ wholeSteps m
 unfolding step quarterSteps wholeSteps
-four-quarters = mode-cases (λ m. 4 * quarterSteps m ≡ wholeSteps m) refl refl refl refl
+four-quarters = mode-cases (λ m. 4 * quarterSteps m ≡ wholeSteps m) refl refl refl refl refl refl
 
 -- two functions with one list of values on the members of a list
 same-or : (f g : ℕ → Point) (x y : ℕ) (t b : Bool) → eqb x y ≡ b → f y ≡ g y → (T t → f x ≡ g x) → T (b || t) → f x ≡ g x
@@ -124,5 +131,6 @@ sent-turned m x hm hx =
     (mode-cases (λ n. map (λ s. sentPoint n (turns n (quarterSteps n) s)) (states n) ≡ map (λ s. turned (sentPoint n s)) (states n))
     (unfold states step turn quarterSteps sent27 sentPoint in refl) (unfold states step turn quarterSteps sent27 sentPoint in refl)
     (unfold states step turn quarterSteps quadrant nextQuadrant levels32 sent32 sentPoint in refl)
-    (unfold states step turn quarterSteps quadrant nextQuadrant levels32 sent32 sentPoint in refl) m hm)
+    (unfold states step turn quarterSteps quadrant nextQuadrant levels32 sent32 sentPoint in refl)
+    (unfold states step turn quarterSteps sent27 sentPoint in refl) (unfold states step turn quarterSteps sent27 sentPoint in refl) m hm)
     hx

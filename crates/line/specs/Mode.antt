@@ -1,18 +1,28 @@
--- Document 01, "Modes, states, turns": the table of modes, the roles, the states of a mode and their turns.
+-- Document 01, "Modes, states, turns": the table of modes, the roles, the states of a mode and their turns. Document 02, R-6: modes 5 and
+-- 6, which are 1 and 2 with the guard.
 use Prim.Native.Nat.{ℕ, zero, suc, _+_, _*_, _-_, _/_, _%_}
-use mathlib.Core.Bool.{Bool, _&&_}
+use mathlib.Core.Bool.{Bool, _&&_, cond}
 use mathlib.Core.List.{List, [], _∷_}
 use lib.Dec.{leb, ltb}
 use lib.ListN.{getD}
 use Rattle.line.specs.Table.{member, below}
 
--- one value for each mode; a number that is no mode reads the nearest column
-abbrev pub byMode : {A : Type 0} → ℕ → A → A → A → A → A
-byMode m a b c d = getD (a ∷ b ∷ c ∷ d ∷ []) (m - 1) d
+-- the column of the table that a mode reads: R-6, "Modes 5 and 6 are modes 1 and 2 with it", so that all that they share with these is
+-- said once; a number that is no mode reads as the nearest mode
+abbrev pub column : ℕ → ℕ
+column m = cond (leb m 4) m (cond (leb m 5) 1 2)
 
--- mode 1 is V.27 ter at 2400 bit/s, 2 the same at 4800, 3 is V.32 at 4800, 4 uncoded V.32 at 9600
+-- one value for each column
+abbrev pub byMode : {A : Type 0} → ℕ → A → A → A → A → A
+byMode m a b c d = getD (a ∷ b ∷ c ∷ d ∷ []) (column m - 1) d
+
+-- mode 1 is V.27 ter at 2400 bit/s, 2 the same at 4800, 3 is V.32 at 4800, 4 uncoded V.32 at 9600; 5 and 6 are 1 and 2 with the guard
 unfoldable pub isMode : ℕ → Bool
-isMode m = leb 1 m && leb m 4
+isMode m = leb 1 m && leb m 6
+
+-- the modes with the guard against repeated patterns (000, 2.4)
+unfoldable pub guarded : ℕ → Bool
+guarded m = ltb 4 m
 
 -- w: the line bits in a point
 unfoldable pub width : ℕ → ℕ
@@ -22,9 +32,9 @@ width m = byMode m 2 3 2 4
 unfoldable pub farTap : ℕ → ℕ
 farTap m = byMode m 7 7 23 23
 
--- the line bits that a register keeps: R
+-- the line bits that a register keeps: R, with the guard 12 (R-6: "The register holds 12 bits in these modes, and number 4 reads 12 for R")
 unfoldable pub capacity : ℕ → ℕ
-capacity m = farTap m
+capacity m = cond (guarded m) 12 (farTap m)
 
 -- step: the smallest turn that carries the states onto themselves, in degrees
 unfoldable pub step : ℕ → ℕ

@@ -3,7 +3,7 @@ ghost use mathlib.Core.Path.{_≡_};
 ghost use Prim.Native.Nat.{_≤_};
 ghost use lib.IntN.{pos, natAbs};
 ghost use Rattle.line.specs.Table.{Tabled};
-ghost use Rattle.line.specs.Mode.{isMode, isRole, width, capacity, isState};
+ghost use Rattle.line.specs.Mode.{column, isMode, isRole, width, guarded, capacity, isState};
 ghost use Rattle.line.specs.Point.{at, coordinateIn, inRange, coordinatesIn, sentPoint};
 ghost use Rattle.line.specs.Refusal.{orNext, modeRefusal};
 
@@ -16,13 +16,34 @@ pub struct Point {
 pub fn mode_ok(mode: u8) -> bool
     ensures { λ r. ⌜ r ≡ isMode mode ⌝ }
 {
-    (1 <= mode) & (mode <= 4)
+    (1 <= mode) & (mode <= 6)
+}
+
+// The column of a mode: 5 and 6 read those of 1 and 2.
+pub fn column_of(mode: u8) -> u8
+    ensures { λ r. ⌜ r ≡ column mode ⌝ }
+{
+    if mode <= 4 {
+        return mode;
+    }
+    if mode <= 5 { 1 } else { 2 }
+}
+
+// Whether a mode has the guard.
+pub fn has_guard(mode: u8) -> bool
+    ensures { λ r. ⌜ r ≡ guarded mode ⌝ }
+{
+    4 < mode
 }
 
 pub fn role_ok(mode: u8, role: u8) -> bool
     ensures { λ r. ⌜ r ≡ isRole mode role ⌝ }
 {
-    if mode <= 2 { role < 1 } else { role < 2 }
+    if column_of(mode) <= 2 {
+        role < 1
+    } else {
+        role < 2
+    }
 }
 
 // The number of a need that is not met, else the rest.
@@ -53,11 +74,12 @@ pub fn mode_fault(mode: u8, role: u8) -> u8
 pub fn width_of(mode: u8) -> u8
     ensures { λ r. ⌜ r ≡ width mode ⌝ }
 {
-    if mode <= 1 {
+    let c = column_of(mode);
+    if c <= 1 {
         2
-    } else if mode == 2 {
+    } else if c == 2 {
         3
-    } else if mode == 3 {
+    } else if c == 3 {
         2
     } else {
         4
@@ -68,17 +90,21 @@ pub fn width_of(mode: u8) -> u8
 pub fn capacity_of(mode: u8) -> u8
     ensures { λ r. ⌜ r ≡ capacity mode ⌝ }
 {
-    if mode <= 2 { 7 } else { 23 }
+    if has_guard(mode) {
+        return 12;
+    }
+    if column_of(mode) <= 2 { 7 } else { 23 }
 }
 
 pub fn state_ok(mode: u8, s: u8) -> bool
     ensures { λ r. ⌜ r ≡ isState mode s ⌝ }
 {
-    if mode <= 1 {
+    let c = column_of(mode);
+    if c <= 1 {
         (s < 8) & (s % 2 == 0)
-    } else if mode == 2 {
+    } else if c == 2 {
         s < 8
-    } else if mode == 3 {
+    } else if c == 3 {
         (s < 16) & (s % 4 == 1)
     } else {
         s < 16
@@ -166,7 +192,7 @@ pub fn sent_point(mode: u8, s: u8) -> Point
     ensures { λ r. ⌜ r ≡ sentPoint mode s ⌝ }
 {
     let i = s as usize;
-    if mode <= 2 {
+    if column_of(mode) <= 2 {
         SENT27[i % 8]
     } else {
         SENT32[i % 16]
@@ -216,7 +242,7 @@ pub fn all_in_range(numbers: &[i16]) -> bool
 pub fn constellation(mode: u8) -> [Point; 16]
     ensures { λ r. ⌜ Tabled 16 (sentPoint mode) (at (pos 0) (pos 0)) r ⌝ }
 {
-    if mode <= 2 {
+    if column_of(mode) <= 2 {
         let t = SENT27;
         let mut points = SENT32;
         let mut s = 0;

@@ -128,7 +128,7 @@ head-small : (r : List ℕ) → headOk r ≡ true → (getD r 4 0 < 10) × (getD
 unfolding isMode isRole
 head-small r e =
     let h = head-parts r e in
-    let m : getD r 4 0 ≤ 4 = leb-true (getD r 4 0) 4 (and-split (leb 1 (getD r 4 0)) (leb (getD r 4 0) 4) (h .0) .1) in
+    let m : getD r 4 0 ≤ 6 = leb-true (getD r 4 0) 6 (and-split (leb 1 (getD r 4 0)) (leb (getD r 4 0) 6) (h .0) .1) in
     let n : getD r 5 0 < byMode (getD r 4 0) 1 1 2 2 = ltb-true _ _ (h .1) in
     let k : byMode (getD r 4 0) 1 1 2 2 ≤ 2 = by-all (λ (w : ℕ). w ≤ 2) 1 1 2 2 (omega arith) (omega arith) (omega arith) (omega arith) (getD r 4 0) in
     (omega arith, omega arith)

@@ -1,8 +1,8 @@
 -- What holds after every call and every list of calls: numbers 1, 2 and 4 stay met, mode and role stay, a gap forgets, and the place
 -- counts the intervals of the accepted calls. Assumes nothing.
-use Prim.Native.Nat.{ℕ, zero, suc, _+_}
+use Prim.Native.Nat.{ℕ, zero, suc, _+_, _≤_}
 use mathlib.Core.Path.{_≡_, refl, _∙_, ap}
-use mathlib.Core.Bool.{Bool, true, false}
+use mathlib.Core.Bool.{Bool, true, false, _&&_}
 use mathlib.Core.List.{List, [], _∷_, _++_}
 use native.Mathlib.Omega.{arith}
 use lib.Dec.{T, eqb, eqb→eq}
@@ -55,9 +55,15 @@ accepted-valid s e z = valid s (next-first (stateRefusal s) _ z)
 pub fields-register : (m : ℕ) (o : Reference) (h : Register) → T (fieldsOk m o h) → Ok m h
 unfolding fieldsOk isFresh
 fields-register m none h t =
-    let y : h .bits ≡ 0 = eqb→eq _ _ (and-left (eqb (h .bits) 0) (eqb (h .held .0) 0) t) in
-    let z : h .held .0 ≡ 0 = eqb→eq _ _ (and-right (eqb (h .bits) 0) (eqb (h .held .0) 0) t) in
-    record { small = omega (arith, pow-pos (h .held .0)); most = omega arith }
+    let a : Bool = eqb (h .bits) 0 && eqb (h .held .0) 0 in
+    let u : T a = and-left a (eqb (h .count .0) 0) t in
+    let y : h .bits ≡ 0 = eqb→eq _ _ (and-left (eqb (h .bits) 0) (eqb (h .held .0) 0) u) in
+    let z : h .held .0 ≡ 0 = eqb→eq _ _ (and-right (eqb (h .bits) 0) (eqb (h .held .0) 0) u) in
+    let x : h .count .0 ≡ 0 = eqb→eq _ _ (and-right a (eqb (h .count .0) 0) t) in
+    record { small = omega (arith, pow-pos (h .held .0)); most = omega arith; counts = zero-at-most (h .count .0) _ x }
+  where
+    zero-at-most : (n k : ℕ) → n ≡ 0 → n ≤ k
+    zero-at-most n k e = omega arith
 fields-register m (some x) h t = ok m h (and-right (isState m x) (registerOk m h) t)
 
 -- and after a decided point

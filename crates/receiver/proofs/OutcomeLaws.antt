@@ -113,7 +113,7 @@ module _ (s : Receiver) where
 -- THE WAYS OF THE CODE
 
 module _ (m : ℕ) (h : Register) (o : Reference) where
-  pub fields-none : o ≡ none → eqb (h .bits) 0 && eqb (h .held .0) 0 ≡ fieldsOk m o h
+  pub fields-none : o ≡ none → (eqb (h .bits) 0 && eqb (h .held .0) 0) && eqb (h .count .0) 0 ≡ fieldsOk m o h
   unfolding fieldsOk isFresh
   fields-none is = rw is
 
@@ -136,8 +136,8 @@ module _ (s : Receiver) (f : ℕ) (e : f ≡ modeRefusal (s .mode) (s .role)) wh
     fault-nowhere k = rw (← e, h, ← p, k)
 
 -- a full register
-pub full-register : (m role g full : ℕ) (h : Register) (d : Descrambled) → full ≡ capacity m → h .held .0 ≡ full → d ≡ descrambled m role (register (h .bits) (capacity m)) g → d ≡ descrambled m role h g
-full-register m role g full h d e f q = q ∙ ap (λ (n : ℕ). descrambled m role (register (h .bits) n) g) (sym (f ∙ e))
+pub full-register : (m role g full : ℕ) (h : Register) (d : Descrambled) → full ≡ capacity m → h .held .0 ≡ full → d ≡ descrambled m role (register (h .bits) (capacity m) (h .count .0)) g → d ≡ descrambled m role h g
+full-register m role g full h d e f q = q ∙ ap (λ (n : ℕ). descrambled m role (register (h .bits) n (h .count .0)) g) (sym (f ∙ e))
 
 -- no room, and room
 module _ (s : Receiver) (n : ℕ) (r : Outcome) where

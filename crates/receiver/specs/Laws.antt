@@ -1,4 +1,4 @@
--- Document 01, "Receiver", and document 02, R-1: what the definitions say after every call and every list of calls. Proved in
+-- Document 01, "Receiver", and document 02, R-1 and R-6: what the definitions say after every call and every list of calls. Proved in
 -- proofs/CallLaws and proofs/Example.
 use Prim.Native.Nat.{ℕ, _+_}
 use mathlib.Core.Path.{_≡_}
@@ -22,7 +22,7 @@ pub record StatesPass : Type 0 where
   pub handed-back-passes : (s : Receiver) (e : Event) → refusal s e ≡ 0 → stateRefusal (next s e) ≡ 0
   pub after-passes : (s : Receiver) (es : List Event) → stateRefusal s ≡ 0 → stateRefusal (after s es) ≡ 0
 
--- "reference and line bits are forgotten", at the origin too
+-- "reference and line bits are forgotten", at the origin too; R-6: and the count is zero, as in `fresh`
 abbrev pub GapForgets : Type 0
 GapForgets = (s : Receiver) (e : Event) (n : ℕ) → answer s e ≡ lost n → (next s e .reference ≡ none) × (next s e .line ≡ fresh)
 

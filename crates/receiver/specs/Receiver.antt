@@ -1,5 +1,5 @@
--- Document 01, "Receiver" and "Refusals", and document 02, R-1: a receiver's events, what it refuses, and the answer, place and state
--- after an event.
+-- Document 01, "Receiver" and "Refusals", and document 02, R-1 and R-6: a receiver's events, what it refuses, and the answer, place and
+-- state after an event. The guard's count of R-6 is the register's.
 use Prim.Native.Nat.{ℕ, _+_}
 use mathlib.Core.Bool.{Bool, _&&_}
 use mathlib.Core.List.{List}
@@ -23,7 +23,7 @@ abbrev pub receiver : ℕ → ℕ → Reference → Register → ℕ → Receive
 receiver m role reference line place =
     record { mode = m; role = role; reference = reference; line = line; place = record { 0 = place } }
 
--- "A fresh one has no reference, no line bits, place 0."
+-- "A fresh one has no reference, no line bits, place 0." R-6: the count is "zero in a fresh receiver and after a gap".
 unfoldable pub freshReceiver : ℕ → ℕ → Receiver
 freshReceiver m role = receiver m role none fresh 0
 
@@ -34,10 +34,12 @@ pub data Event : Type 0 where
 
 -- THE REFUSALS
 
+-- no line bits, and a count of zero
 unfoldable pub isFresh : Register → Bool
-isFresh h = eqb (h .bits) 0 && eqb (h .held .0) 0
+isFresh h = (eqb (h .bits) 0 && eqb (h .held .0) 0) && eqb (h .count .0) 0
 
--- number 4: the reference is a state of the mode, with at most R line bits; without a reference there are none
+-- number 4: the reference is a state of the mode, with at most R line bits; without a reference there are none. R-6: "4 covers a count
+-- above 33, or above zero in modes 1 to 4 or in a receiver with fewer than 12 line bits", hence above zero in one without a reference.
 unfoldable pub fieldsOk : ℕ → Reference → Register → Bool
 fieldsOk m none h = isFresh h
 fieldsOk m (some x) h = isState m x && registerOk m h
@@ -101,7 +103,7 @@ placeAfter s e = accepted (refusal s e) (s .place .0 + intervals e) (s .place .0
 
 -- THE STATE
 
--- a gap of n intervals: reference and line bits are forgotten
+-- a gap of n intervals: reference and line bits are forgotten, and R-6: the count is zero "after a gap"
 unfoldable pub forgotten : Receiver → ℕ → Receiver
 forgotten s n = receiver (s .mode) (s .role) none fresh (s .place .0 + n)
 

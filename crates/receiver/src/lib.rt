@@ -1,4 +1,5 @@
-// The receiver: its state, its answers, and the points and gaps that it takes. Document 01, "Receiver" and "Refusals".
+// The receiver: its state, its answers, and the points and gaps that it takes. Document 01, "Receiver" and "Refusals"; the guard's count,
+// which is the register's: document 02, R-6.
 ghost use mathlib.Core.Path.{_≡_};
 ghost use Rattle.line.specs.Point.{at};
 ghost use Rattle.scrambler.specs.Group.{descrambled};
@@ -18,7 +19,7 @@ pub enum Reference {
     State(u8),
 }
 
-// A receiver's state: `line` holds the line bits since the last gap, `place` counts the unit intervals so far.
+// A receiver's state: `line` holds the line bits since the last gap and the guard's count, `place` counts the unit intervals so far.
 pub struct Receiver {
     pub mode: u8,
     pub role: u8,
@@ -74,8 +75,9 @@ fn fields_ok(mode: u8, reference: Reference, h: Register) -> bool
 {
     let bits = h.bits;
     let held = h.held.0;
+    let count = h.count.0;
     match reference {
-        Reference::Nothing => (bits == 0) & (held == 0),
+        Reference::Nothing => (bits == 0) & (held == 0) & (count == 0),
         Reference::State(x) => line::state_ok(mode, x) & scrambler::register_ok(mode, h),
     }
 }
@@ -110,7 +112,7 @@ fn moved(s: Receiver, reference: Reference, line: Register, place: u32) -> Recei
     }
 }
 
-// A gap of n intervals: reference and line bits are forgotten.
+// A gap of n intervals: reference, line bits and count are forgotten.
 fn lose(s: Receiver, n: u32) -> Outcome
     ensures { λ r. ⌜ r ≡ ifRoom s n (gapOutcome s n) ⌝ }
 {
@@ -123,15 +125,39 @@ fn lose(s: Receiver, n: u32) -> Outcome
     Outcome::Gap(Intervals(n), next)
 }
 
-// The data bits of w line bits. Nearly always the register is full, and nothing is to be counted.
+// A value field by field: one that a call hands back would take those that are put in line through memory, too.
+fn by_fields(d: Descrambled) -> Descrambled
+    ensures { λ r. ⌜ r ≡ d ⌝ }
+{
+    Descrambled {
+        plain: d.plain,
+        unsettled: BitCount(d.unsettled.0),
+        next: Register {
+            bits: d.next.bits,
+            held: BitCount(d.next.held.0),
+            count: BitCount(d.next.count.0),
+        },
+    }
+}
+
+// The data bits of w line bits. Nearly always the register is full, and no line bits are to be counted.
 fn descramble(mode: u8, role: u8, h: Register, line: u8) -> Descrambled
     ensures { λ r. ⌜ r ≡ descrambled mode role h line ⌝ }
 {
-    if h.held.0 == line::capacity_of(mode) {
-        scrambler::descramble_next(mode, role, h.bits, line)
-    } else {
-        scrambler::descramble_group(mode, role, h, line)
+    if h.held.0 != line::capacity_of(mode) {
+        return by_fields(scrambler::descramble_group(
+            mode,
+            role,
+            h.bits,
+            h.held.0,
+            h.count.0,
+            line,
+        ));
     }
+    if line::has_guard(mode) {
+        return by_fields(scrambler::descramble_counted(mode, role, h.bits, h.count.0, line));
+    }
+    scrambler::descramble_next(mode, role, h.bits, line)
 }
 
 // A point decided as the state y at the distance d: y becomes the reference.

@@ -1,6 +1,7 @@
 -- Data points as they are handed on, and the bits that a receiver reads of them. Assumes nothing.
 use Prim.Native.Nat.{ℕ, suc, _+_, _*_, _-_, _<_, _≤_}
 use mathlib.Core.Path.{_≡_, refl, sym, _∙_, ap, ap₂, subst, subst₂}
+use mathlib.Core.Bool.{false}
 use mathlib.Core.List.{List, [], _∷_, _++_, map, map-append, append-assoc}
 use mathlib.Core.Logic.{⊎-elim}
 use native.Mathlib.Omega.{arith}
@@ -9,11 +10,11 @@ use lib.IntN.{ℤ, pos}
 use lib.ListN.{length, getD, take, drop, length-map, length-append}
 use lib.Seq.{sets, drop-at, take-at, drop-nil}
 use Rattle.line.proofs.RefusalLaws.{need-met, need-rest, next-rest}
-use Rattle.line.specs.Mode.{width}
+use Rattle.line.specs.Mode.{guarded, width}
 use Rattle.deciding.specs.Decide.{stateIn}
-use Rattle.scrambler.specs.Scramble.{settled, descramble}
+use Rattle.scrambler.specs.Scramble.{Datum, settled, descramble}
 use Rattle.receiver.specs.Receiver.{Event, point, gap}
-use Rattle.receiver.specs.Calls.{Heard, decidedAs, row, events as heardEvents}
+use Rattle.receiver.specs.Calls.{Heard, decidedAs, linesFrom2, row, events as heardEvents}
 use Rattle.receiver.specs.Turn.{lines}
 use Rattle.sender.specs.declared.Sender.{Sender}
 use Rattle.sender.specs.Calls.{DataPoint}
@@ -26,10 +27,10 @@ use Rattle.store.specs.Store.{events, refusal}
 use Rattle.store.specs.Reads.{numbers, readNumber, readCount, readResult}
 use Rattle.track.specs.Calls.{after, taken}
 use Rattle.track.proofs.CallLaws.{Run, calls-law}
-use Rattle.resync.specs.Assured.{assuredPoint, dataFrom}
+use Rattle.resync.specs.Assured.{assuredPoint, unassured, assuredData}
 use Rattle.resync.specs.DataPoints.{Consecutive, received, appended, eventIn, eventsIn, ReadBack, Handed, givenFrom}
 use Rattle.resync.proofs.RowLaws.{drop-row}
-use Rattle.resync.proofs.ReceivedLaws.{data-any, enough}
+use Rattle.resync.proofs.ReceivedLaws.{enough, unassured-plain, lineRow, heard-row, data-any}
 use Rattle.receiver.proofs.ShapeLaws.{Shape}
 use Rattle.resync.proofs.SenderLaws.{groupsOf, decided-made, states-same, made-sized, data-given}
 
@@ -118,32 +119,51 @@ from-sender : (m role : ℕ) (ds : List DataPoint) → Consecutive m role ds →
 from-sender m role ds c =
     subst₂ (λ (n r : ℕ). From n r ds) (c .mode-is) (c .role-is) (consecutive (c .sender) (c .calls) (c .earlier) ds (c .later) (c .are))
 
--- the bits from the assured point on: the register is the sender's own after the first point
+-- the assured bits: the register is the sender's own after the first point
 sender-made : (s : Sender) (xs : List Heard) (ds : List DataPoint) → Shape (s .mode) (s .role) xs → Made s ds → heardEvents xs ≡ received ds
-    → dataFrom (assuredPoint (s .mode)) xs ≡ map settled (givenFrom (assuredPoint (s .mode)) ds)
+    → assuredData (s .mode) xs ≡ map settled (drop (unassured (s .mode) (row (linesFrom2 xs))) (givenFrom 2 ds))
 unfolding afterGroup
-sender-made s [] [] k c e = rw (drop-nil {A = Heard} (assuredPoint (s .mode) - 1), drop-nil {A = DataPoint} (assuredPoint (s .mode) - 1))
+sender-made s [] [] k c e = rw (drop-nil {A = Datum} (unassured (s .mode) []), drop-nil {A = ℕ} (unassured (s .mode) []))
 sender-made s [] (d ∷ ds) k c e = absurd (omega (arith, ap length e))
 sender-made s (x ∷ xs) [] k c e = absurd (omega (arith, ap length e))
 sender-made s (x ∷ xs) (d ∷ ds) k c e =
     let m : ℕ = s .mode in
     let role : ℕ = s .role in
     let t : Sender = afterGroup s (d .bits) in
-    let p : ℕ = assuredPoint m in
-    let q = enough m (k .0) in
+    let n : ℕ = unassured m (lineRow m x xs) in
     let e0 : x .event ≡ point (d .point) = cc in
     let e1 : heardEvents xs ≡ received ds = cc in
     let x0 : decidedAs m (x .event) ≡ t .reference = ap (decidedAs m) e0 ∙ ap stateIn (decided-made s d ds c) in
     data-any m role x xs k (t .line)
-    ∙ ap₂ (λ (y : ℕ) (ys : List ℕ). drop ((p - 2) * width m) (descramble m role (t .line) (row (lines m y ys)))) x0 (states-same m xs ds e1)
-    ∙ ap (drop ((p - 2) * width m)) (data-given t ds (c .4))
-    ∙ sym (map-drop settled ((p - 2) * width m) (row (groupsOf ds)))
-    ∙ ap (map settled) (drop-row (width m) (p - 2) (groupsOf ds) (made-sized t ds (c .4)) ∙ ap row (sym (map-drop (λ (t : DataPoint). t .bits) (p - 2) ds)))
-    ∙ ap (λ (n : ℕ). map settled (row (groupsOf (drop n (d ∷ ds))))) (let w : suc (p - 2) ≡ p - 1 = omega arith in w)
+    ∙ ap₂ (λ (y : ℕ) (ys : List ℕ). drop n (descramble m role (t .line) (row (lines m y ys)))) x0 (states-same m xs ds e1)
+    ∙ ap (drop n) (data-given t ds (c .4))
+    ∙ sym (map-drop settled n (row (groupsOf ds)))
+    ∙ ap (λ (bs : List ℕ). map settled (drop (unassured m bs) (row (groupsOf ds)))) (sym (heard-row m role x xs k))
 
 pub sender-data : (m role : ℕ) (xs : List Heard) (ds : List DataPoint) → Shape m role xs → Consecutive m role ds → heardEvents xs ≡ received ds
-    → dataFrom (assuredPoint m) xs ≡ map settled (givenFrom (assuredPoint m) ds)
+    → assuredData m xs ≡ map settled (drop (unassured m (row (linesFrom2 xs))) (givenFrom 2 ds))
 sender-data m role xs ds k c e =
     let f : From m role ds = from-sender m role ds c in
-    subst (λ (n : ℕ). dataFrom (assuredPoint n) xs ≡ map settled (givenFrom (assuredPoint n) ds)) (f .mode)
+    subst (λ (n : ℕ). assuredData n xs ≡ map settled (drop (unassured n (row (linesFrom2 xs))) (givenFrom 2 ds))) (f .mode)
     (sender-made (f .sender) xs ds (subst₂ (λ (n r : ℕ). Shape n r xs) (sym (f .mode)) (sym (f .role-is)) k) (f .made-by) e)
+
+-- without the guard the bits given for the points from the assured one on
+given-made : (s : Sender) (ds : List DataPoint) (bs : List ℕ) → Made s ds → guarded (s .mode) ≡ false
+    → drop (unassured (s .mode) bs) (givenFrom 2 ds) ≡ givenFrom (assuredPoint (s .mode)) ds
+unfolding afterGroup
+given-made s [] bs k g = drop-nil {A = ℕ} (unassured (s .mode) bs) ∙ sym (ap (λ (l : List DataPoint). row (groupsOf l)) (drop-nil {A = DataPoint} (assuredPoint (s .mode) - 1)))
+given-made s (d ∷ ds) bs k g =
+    let m : ℕ = s .mode in
+    let p : ℕ = assuredPoint m in
+    let q = enough m in
+    ap (λ (n : ℕ). drop n (row (groupsOf ds))) (unassured-plain m bs g)
+    ∙ drop-row (width m) (p - 2) (groupsOf ds) (made-sized (afterGroup s (d .bits)) ds (k .4))
+    ∙ ap row (sym (map-drop (λ (t : DataPoint). t .bits) (p - 2) ds))
+    ∙ ap (λ (n : ℕ). row (groupsOf (drop n (d ∷ ds)))) (let w : suc (p - 2) ≡ p - 1 = omega arith in w)
+
+pub given-from-point : (m role : ℕ) (ds : List DataPoint) (bs : List ℕ) → Consecutive m role ds → guarded m ≡ false
+    → drop (unassured m bs) (givenFrom 2 ds) ≡ givenFrom (assuredPoint m) ds
+given-from-point m role ds bs c g =
+    let f : From m role ds = from-sender m role ds c in
+    subst (λ (n : ℕ). drop (unassured n bs) (givenFrom 2 ds) ≡ givenFrom (assuredPoint n) ds) (f .mode)
+    (given-made (f .sender) ds bs (f .made-by) (ap guarded (f .mode) ∙ g))

@@ -1,30 +1,31 @@
 -- Descrambling: the marks stand in front, the scrambler is undone, and what the functions compute of a group. Assumes nothing.
 use Prim.Native.Nat.{ℕ, zero, suc, _+_, _*_, _-_, _^_, _/_, _%_, _<_, _≤_, min}
 use mathlib.Core.Path.{_≡_, refl, sym, _∙_, ap, ap₂, subst, subst⁻¹}
+use mathlib.Core.Bool.{Bool, true, false, _&&_, _||_, cond}
 use mathlib.Core.List.{List, [], _∷_, _++_}
 use native.Mathlib.Nat.{mod-le, mod-lt, mod-eq-of-lt, mul-assoc, mul-add-mod-self-right, sub-zero}
 use native.Mathlib.Omega.{arith}
-use borrow.Author.Tests.{le-leb, lt-leb}
-use lib.Dec.{T, leb, ltb, ltb→lt, lt→ltb}
+use borrow.Author.Tests.{le-leb, lt-leb, ltb-false}
+use lib.Dec.{T, eqb, leb, ltb, ltb→lt, lt→ltb}
 use lib.ListN.{length}
-use lib.Bits.{bitXor}
+use lib.Bits.{bitXor, xor-lt, xor-zero-r}
 use lib.Pow.{pow-pos, pow-add}
 use Rattle.line.specs.Table.{every}
-use Rattle.line.specs.Mode.{width, farTap, capacity}
+use Rattle.line.specs.Mode.{column, byMode, width, farTap, guarded, capacity}
 use Rattle.line.proofs.TableLaws.{and-left, and-right, and-intro}
-use Rattle.line.proofs.ByMode.{by-all, width-range}
+use Rattle.line.proofs.ByMode.{column-low, column-most, same-column, by-all, width-range, kept-guarded, kept-plain, guarded-width}
 use Rattle.scrambler.specs.declared.Register.{Register}
 use Rattle.scrambler.specs.declared.Scrambled.{Scrambled}
 use Rattle.scrambler.specs.declared.Descrambled.{Descrambled}
 use Rattle.scrambler.specs.Bits.{isBit, bits, value}
-use Rattle.scrambler.specs.Register.{register, nearTap, push, pushes}
+use Rattle.scrambler.specs.Register.{register, back, nearTap, counting, inverting, differs, countAfter, push, pushes}
 use Rattle.scrambler.specs.Scramble.{mix, scramble, Datum, unsettled, settled, mark, descramble}
 use Rattle.scrambler.specs.Group.{scrambled, plainOf, unsettledIn, descrambled, marked}
-use Rattle.scrambler.specs.Laws.{Unscrambled}
-use Rattle.scrambler.specs.Windows.{mixedAtOnce}
-use Rattle.scrambler.proofs.BitLaws.{length-bits, value-small, bits-value}
-use Rattle.scrambler.proofs.RegisterLaws.{same-register, push-group, full-push}
-use Rattle.scrambler.proofs.WindowLaws.{mix-small, unmixed, scramble-at-once, unmixed-at-once}
+use Rattle.scrambler.specs.Laws.{Unscrambled, ZerosSent}
+use Rattle.scrambler.specs.Windows.{mixedAtOnce, differAtOnce, inversion, counted, inversions, countOver}
+use Rattle.scrambler.proofs.BitLaws.{length-bits, value-bits, value-small, bits-value}
+use Rattle.scrambler.proofs.RegisterLaws.{same-register, push-group, full-push, plain-count}
+use Rattle.scrambler.proofs.WindowLaws.{mix-small, unmixed, bits-inversions, inverted, scramble-at-once, unmixed-at-once}
 
 -- lengths, and bits that are bits
 pub length-scramble : (m role : ℕ) (h : Register) (ds : List ℕ) → length (scramble m role h ds) ≡ length ds
@@ -144,29 +145,202 @@ mixed-law m role n x w a far r ew ea ef e =
     e ∙ ap₂ (λ (i j : ℕ). bitXor (bitXor x (n / 2 ^ i)) (n / 2 ^ j) % 2 ^ width m)
     (ap₂ (λ (i j : ℕ). i - j) ea ew) (ap₂ (λ (i j : ℕ). i - j) ef ew)
 
+same-mix : (k m role n g : ℕ) → width k ≡ width m → nearTap k role ≡ nearTap m role → farTap k ≡ farTap m → mixedAtOnce k role n g ≡ mixedAtOnce m role n g
+unfolding mixedAtOnce
+same-mix k m role n g ew en ef = rw (ew, en, ef)
+
+pub small-column : (m k : ℕ) → k ≡ column m → k ≤ 4
+small-column m k e = let l = column-most m in omega arith
+
+-- a mode's column mixes as the mode; k is the column, as the code found it
+pub mixed-column : (m k role n g : ℕ) → k ≡ column m → mixedAtOnce k role n g ≡ mixedAtOnce m role n g
+unfolding width nearTap farTap
+mixed-column m k role n g e = same-mix k m role n g (same-column _ _ _ _ m k e) (same-column _ _ _ _ m k e) (same-column _ _ _ _ m k e)
+
+pub width-column : (m k : ℕ) → k ≡ column m → width k ≡ width m
+unfolding width
+width-column m k e = same-column _ _ _ _ m k e
+
+-- without the guard a mode is its own column
+pub plain-column : (m : ℕ) → guarded m ≡ false → column m ≡ m
+unfolding guarded
+plain-column m g = sym (column-low m (ltb-false 4 m g))
+
 width-suc : (m : ℕ) → suc (width m - 1) ≡ width m
 width-suc m = let z = width-range m .0 in omega arith
 
--- the register after a group
+-- the line bits that a register holds after a group
 pub push-law : (m : ℕ) (h : Register) (g w full low size next held : ℕ) → w ≡ width m → full ≡ capacity m → low ≡ g % 2 ^ width m → size ≡ 2 ^ w
     → next ≡ (h .bits * size + low) % 2 ^ capacity m → held ≡ min (h .held .0 + w) full
-    → _≡_ {A = Register} (record { bits = next; held = record { 0 = held } }) (pushes m h (bits (width m) g))
+    → (next ≡ pushes m h (bits (width m) g) .bits) × (held ≡ pushes m h (bits (width m) g) .held .0)
 push-law m h g w full low size next held ew ef el es en eh =
-    same-register _ _
-    (en ∙ ap₂ (λ (i j : ℕ). (h .bits * i + j) % 2 ^ capacity m) (es ∙ ap (λ (i : ℕ). 2 ^ i) ew) el)
-    (eh ∙ ap₂ (λ (i j : ℕ). min (h .held .0 + i) j) ew ef)
-    ∙ sym (subst (λ (k : ℕ). pushes m h (bits k g) ≡ register ((h .bits * 2 ^ k + g % 2 ^ k) % 2 ^ capacity m) (min (h .held .0 + k) (capacity m))) (width-suc m) (push-group m h (width m - 1) g))
+    let p : pushes m h (bits (width m) g) ≡ register ((h .bits * 2 ^ width m + g % 2 ^ width m) % 2 ^ capacity m) (min (h .held .0 + width m) (capacity m)) (pushes m h (bits (width m) g) .count .0) =
+    subst (λ (k : ℕ). pushes m h (bits k g) ≡ register ((h .bits * 2 ^ k + g % 2 ^ k) % 2 ^ capacity m) (min (h .held .0 + k) (capacity m)) (pushes m h (bits k g) .count .0)) (width-suc m) (push-group m h (width m - 1) g) in (
+      en ∙ ap₂ (λ (i j : ℕ). (h .bits * i + j) % 2 ^ capacity m) (es ∙ ap (λ (i : ℕ). 2 ^ i) ew) el ∙ ap (λ (k : Register). k .bits) (sym p),
+      eh ∙ ap₂ (λ (i j : ℕ). min (h .held .0 + i) j) ew ef ∙ ap (λ (k : Register). k .held .0) (sym p),
+    )
 
-pub scramble-law : (m role d line : ℕ) (h next : Register) → line ≡ mixedAtOnce m role (h .bits) d → next ≡ pushes m h (bits (width m) line)
-    → _≡_ {A = Scrambled} (record { line = line; next = next }) (scrambled m role h d)
+-- and without the guard the count after it is zero
+pub push-plain : (m : ℕ) (h : Register) (g next held : ℕ) → guarded m ≡ false → (next ≡ pushes m h (bits (width m) g) .bits) × (held ≡ pushes m h (bits (width m) g) .held .0)
+    → register next held 0 ≡ pushes m h (bits (width m) g)
+push-plain m h g next held p e =
+    same-register _ _ (e .0) (e .1)
+    (subst (λ (k : ℕ). 0 ≡ pushes m h (bits k g) .count .0) (width-suc m) (sym (plain-count m h (g / 2 ^ (width m - 1) % 2) (bits (width m - 1) g) p)))
+
+-- THE GUARD ALONG A GROUP
+
+-- modes that count alike
+like-modes : (m n k c : ℕ) (es : List ℕ) → guarded m ≡ guarded n → capacity m ≡ capacity n
+    → (inversions m k c es ≡ inversions n k c es) × (countOver m k c es ≡ countOver n k c es)
+like-modes m n k c [] eg ec = (refl, refl)
+like-modes m n k c (e ∷ es) eg ec =
+    let i = like-modes m n (min (k + 1) (capacity m)) (counted m k c e) es eg ec in
+    let ei : inversion m k c ≡ inversion n k c = rw (eg, ec) refl in
+    let ek : min (k + 1) (capacity m) ≡ min (k + 1) (capacity n) = ap (min (k + 1)) ec in
+    let ed : counted m k c e ≡ counted n k c e = rw (eg, ec) refl in
+    (ap₂ _∷_ ei (i .0 ∙ ap₂ (λ (x y : ℕ). inversions n x y es) ek ed), i .1 ∙ ap₂ (λ (x y : ℕ). countOver n x y es) ek ed)
+
+-- with the guard they count as mode 6
+as-six : (m : ℕ) → guarded m ≡ true → (guarded m ≡ guarded 6) × (capacity m ≡ capacity 6)
+as-six m e = (e ∙ sym six, sym (kept-guarded m e) ∙ kept-guarded 6 six)
+  where
+    six : guarded 6 ≡ true
+    six = unfold guarded in refl
+
+lowest : (f : ℕ) → f % 2 ≡ f / 2 ^ 0 % 2
+lowest f = omega arith
+
+-- three bits of a group, or two, one after the other
+pub three-law : (w k c f : ℕ) (v k₁ c₁ v₁ k₂ c₂ v₂ c₃ v₃ : ℕ) → v ≡ 0 → w ≡ 3
+    → (k₁ ≡ min (k + 1) (capacity 6)) × (c₁ ≡ counted 6 k c (f / 4 % 2)) × (v₁ ≡ 2 * v + inversion 6 k c)
+    → (k₂ ≡ min (k₁ + 1) (capacity 6)) × (c₂ ≡ counted 6 k₁ c₁ (f / 2 % 2)) × (v₂ ≡ 2 * v₁ + inversion 6 k₁ c₁)
+    → (c₃ ≡ counted 6 k₂ c₂ (f % 2)) × (v₃ ≡ 2 * v₂ + inversion 6 k₂ c₂)
+    → (v₃ ≡ value (inversions 6 k c (bits w f))) × (c₃ ≡ countOver 6 k c (bits w f))
+three-law w k c f v k₁ c₁ v₁ k₂ c₂ v₂ c₃ v₃ e0 e3 a b d =
+    let ek : k₂ ≡ min (min (k + 1) (capacity 6) + 1) (capacity 6) = b .0 ∙ ap (λ (x : ℕ). min (x + 1) (capacity 6)) (a .0) in
+    let ec : c₂ ≡ counted 6 (min (k + 1) (capacity 6)) (counted 6 k c (f / 4 % 2)) (f / 2 % 2) = b .1 ∙ ap₂ (λ (x y : ℕ). counted 6 x y (f / 2 % 2)) (a .0) (a .1) in
+    let ev : v₂ ≡ 2 * (2 * 0 + inversion 6 k c) + inversion 6 (min (k + 1) (capacity 6)) (counted 6 k c (f / 4 % 2)) =
+    b .2 ∙ ap₂ (λ (x y : ℕ). 2 * x + y) (a .2 ∙ ap (λ (x : ℕ). 2 * x + inversion 6 k c) e0) (ap₂ (inversion 6) (a .0) (a .1)) in
+    subst⁻¹ (λ (n : ℕ). (v₃ ≡ value (inversions 6 k c (bits n f))) × (c₃ ≡ countOver 6 k c (bits n f))) e3 (
+      d .1 ∙ ap₂ (λ (x y : ℕ). 2 * x + y) ev (ap₂ (inversion 6) ek ec) ∙ by-twos _ _ _,
+      d .0 ∙ ap (λ (x : ℕ). counted 6 k₂ c₂ x) (lowest f) ∙ ap₂ (λ (x y : ℕ). counted 6 x y (f / 2 ^ 0 % 2)) ek ec,
+    )
+  where
+    by-twos : (x y z : ℕ) → 2 * (2 * (2 * 0 + x) + y) + z ≡ value (x ∷ y ∷ z ∷ [])
+    by-twos x y z = omega arith
+
+pub two-law : (w k c f : ℕ) (v k₁ c₁ v₁ c₂ v₂ : ℕ) → v ≡ 0 → w ≡ 2
+    → (k₁ ≡ min (k + 1) (capacity 6)) × (c₁ ≡ counted 6 k c (f / 2 % 2)) × (v₁ ≡ 2 * v + inversion 6 k c)
+    → (c₂ ≡ counted 6 k₁ c₁ (f % 2)) × (v₂ ≡ 2 * v₁ + inversion 6 k₁ c₁)
+    → (v₂ ≡ value (inversions 6 k c (bits w f))) × (c₂ ≡ countOver 6 k c (bits w f))
+two-law w k c f v k₁ c₁ v₁ c₂ v₂ e0 e2 a b =
+    subst⁻¹ (λ (n : ℕ). (v₂ ≡ value (inversions 6 k c (bits n f))) × (c₂ ≡ countOver 6 k c (bits n f))) e2 (
+      b .1 ∙ ap₂ (λ (x y : ℕ). 2 * x + y) (a .2 ∙ ap (λ (x : ℕ). 2 * x + inversion 6 k c) e0) (ap₂ (inversion 6) (a .0) (a .1)) ∙ by-twos _ _,
+      b .0 ∙ ap (λ (x : ℕ). counted 6 k₁ c₁ x) (lowest f) ∙ ap₂ (λ (x y : ℕ). counted 6 x y (f / 2 ^ 0 % 2)) (a .0) (a .1),
+    )
+  where
+    by-twos : (x y : ℕ) → 2 * (2 * 0 + x) + y ≡ value (x ∷ y ∷ [])
+    by-twos x y = omega arith
+
+-- the whole of what the guard does to a group of a mode
+pub guard-law : (m w k c n y f v r : ℕ) → guarded m ≡ true → w ≡ width m → f ≡ differAtOnce w n y
+    → (v ≡ value (inversions 6 k c (bits w f))) × (r ≡ countOver 6 k c (bits w f))
+    → (v ≡ value (inversions m k c (bits (width m) (differAtOnce (width m) n y)))) × (r ≡ countOver m k c (bits (width m) (differAtOnce (width m) n y)))
+guard-law m w k c n y f v r g ew ed p =
+    let z = as-six m g in
+    let es : List ℕ = bits (width m) (differAtOnce (width m) n y) in
+    let e : bits w f ≡ es = ap₂ bits ew (ed ∙ ap (λ (x : ℕ). differAtOnce x n y) ew) in
+    let l = like-modes m 6 k c es (z .0) (z .1) in
+    (p .0 ∙ ap (λ (l : List ℕ). value (inversions 6 k c l)) e ∙ sym (ap value (l .0)), p .1 ∙ ap (countOver 6 k c) e ∙ sym (l .1))
+
+zero-times : (n : ℕ) → 0 * n + 0 ≡ 0
+zero-times n = omega arith
+
+-- where the count cannot come to 33 nothing is inverted
+quiet : (m k c : ℕ) (es : List ℕ) → c + length es ≤ 33 → value (inversions m k c es) ≡ 0
+quiet m k c [] h = refl
+quiet m k c (e ∷ es) h =
+    let r : ℕ = min (k + 1) (capacity m) in
+    let d : ℕ = counted m k c e in
+    let i : inversion m k c ≡ 0 = not-yet (guarded m && leb (capacity m) k) (lt-leb 33 c (omega arith)) in
+    let n : d ≤ c + 1 = at-most (guarded m && leb (capacity m) k) (leb 33 c || eqb e 1) in
+    let v = quiet m r d es (omega arith) in
+    ap₂ (λ (b x : ℕ). b * 2 ^ length (inversions m r d es) + x) i v ∙ zero-times (2 ^ length (inversions m r d es))
+  where
+    not-yet : (b : Bool) → leb 33 c ≡ false → _≡_ {A = ℕ} (cond (b && leb 33 c) 1 0) 0
+    not-yet true z = ap {B = ℕ} (λ (t : Bool). cond t 1 0) z
+    not-yet false z = refl
+
+    at-most : (a b : Bool) → cond a (cond b 0 (c + 1)) 0 ≤ c + 1
+    at-most true true = omega arith
+    at-most true false = omega arith
+    at-most false b = omega arith
+
+pub quiet-law : (m k c f : ℕ) → guarded m ≡ true → c ≤ 30 → 0 ≡ value (inversions m k c (bits (width m) f))
+quiet-law m k c f g h = sym (quiet m k c (bits (width m) f) (let w = guarded-width m g in let l = length-bits (width m) f in omega arith))
+
+-- without the guard nothing is inverted, and the count is zero after a bit
+plain-along : (m k c : ℕ) (es : List ℕ) → guarded m ≡ false → (value (inversions m k c es) ≡ 0) × ((e : ℕ) → countOver m k c (e ∷ es) ≡ 0)
+plain-along m k c [] g = (refl, λ e. rw g refl)
+plain-along m k c (x ∷ xs) g =
+    let r : ℕ = min (k + 1) (capacity m) in
+    let v = plain-along m r (counted m k c x) xs g .0 in
+    let i : inversion m k c ≡ 0 = rw g refl in (
+      ap₂ (λ (b n : ℕ). b * 2 ^ length (inversions m r (counted m k c x) xs) + n) i v ∙ zero-times (2 ^ length (inversions m r (counted m k c x) xs)),
+      λ e. plain-along m r (counted m k c e) xs g .1 x,
+    )
+
+pub plain-guard : (m k c f : ℕ) → guarded m ≡ false → (0 ≡ value (inversions m k c (bits (width m) f))) × (0 ≡ countOver m k c (bits (width m) f))
+plain-guard m k c f g = (
+  sym (plain-along m k c (bits (width m) f) g .0),
+  subst (λ (n : ℕ). 0 ≡ countOver m k c (bits n f)) (width-suc m) (sym (plain-along m k c (bits (width m - 1) f) g .1 (f / 2 ^ (width m - 1) % 2))),
+)
+
+-- a group mixed, with its inversions
+pub mixed-small : (m role n x : ℕ) → mixedAtOnce m role n x < 2 ^ width m
+unfolding mixedAtOnce
+mixed-small m role n x = mod-lt (bitXor (bitXor x (n / 2 ^ (nearTap m role - width m))) (n / 2 ^ (farTap m - width m))) (pow-pos (width m))
+
+inverted-small : (m w : ℕ) (h : Register) (y : ℕ) → inverted m w h y < 2 ^ w
+inverted-small m w h y =
+    let es : List ℕ = bits w (differAtOnce w (h .bits) y) in
+    let b = bits-inversions m (h .held .0) (h .count .0) es in
+    subst (λ (n : ℕ). inverted m w h y < 2 ^ n) (b .0 ∙ length-bits w (differAtOnce w (h .bits) y)) (value-small (inversions m (h .held .0) (h .count .0) es) (b .1))
+
+abbrev mixedWith : ℕ → ℕ → Register → ℕ → ℕ → ℕ
+mixedWith m role h g y = bitXor (mixedAtOnce m role (h .bits) g) (inverted m (width m) h y)
+
+with-small : (m role : ℕ) (h : Register) (g y : ℕ) → mixedWith m role h g y < 2 ^ width m
+with-small m role h g y = xor-lt (width m) _ _ (mixed-small m role (h .bits) g) (inverted-small m (width m) h y)
+
+with-value : (m role : ℕ) (h : Register) (g y : ℕ) (l : List ℕ) → l ≡ bits (width m) (mixedWith m role h g y) → value l ≡ mixedWith m role h g y
+with-value m role h g y l e = ap value e ∙ value-bits (width m) _ ∙ mod-eq-of-lt (with-small m role h g y)
+
+pub scramble-law : (m role d all inv line : ℕ) (h : Register) (s : Scrambled) (k : ℕ) → all ≡ mixedAtOnce m role (h .bits) d → inv ≡ inverted m (width m) h all → line ≡ bitXor all inv
+    → s .line ≡ line → s .next .bits ≡ pushes m h (bits (width m) line) .bits → s .next .held .0 ≡ pushes m h (bits (width m) line) .held .0
+    → s .next .count .0 ≡ k → k ≡ countOver m (h .held .0) (h .count .0) (bits (width m) (differAtOnce (width m) (h .bits) all))
+    → s ≡ scrambled m role h d
 unfolding scrambled
-scramble-law m role d line h next e f =
+scramble-law m role d all inv line h s k ea ei el es eb eh en ec =
     let l : List ℕ = scramble m role h (bits (width m) d) in
-    let v : line ≡ value l = e ∙ sym (scramble-at-once m role h d) in
-    let n : length l ≡ width m = length-scramble m role h (bits (width m) d) ∙ length-bits (width m) d in
-    let b : bits (width m) line ≡ l = ap₂ bits (sym n) v ∙ bits-value l (bits-scramble m role h (bits (width m) d)) in
-    let g : next ≡ pushes m h l = f ∙ ap (pushes m h) b in
-    λ i. record { line = v i; next = g i }
+    let r = scramble-at-once m role h d in
+    let v : line ≡ mixedWith m role h d (mixedAtOnce m role (h .bits) d) = el ∙ ap₂ bitXor ea (ei ∙ ap (inverted m (width m) h) ea) in
+    let b : bits (width m) line ≡ l = ap (bits (width m)) v ∙ sym (r .0) in
+    let n : s .next ≡ pushes m h l =
+    same-register (s .next) (pushes m h l) (eb ∙ ap (λ (k : List ℕ). pushes m h k .bits) b) (eh ∙ ap (λ (k : List ℕ). pushes m h k .held .0) b)
+    (en ∙ ec ∙ ap (λ (y : ℕ). countOver m (h .held .0) (h .count .0) (bits (width m) (differAtOnce (width m) (h .bits) y))) ea ∙ sym (r .1)) in
+    let w : s .line ≡ value l = es ∙ v ∙ sym (with-value m role h d _ l (r .0)) in
+    λ i. record { line = w i; next = n i }
+
+-- without the guard the group as it is mixed
+pub plain-scramble-law : (m role d line : ℕ) (h next : Register) → guarded m ≡ false → line ≡ mixedAtOnce m role (h .bits) d → next ≡ pushes m h (bits (width m) line)
+    → _≡_ {A = Scrambled} (record { line = line; next = next }) (scrambled m role h d)
+plain-scramble-law m role d line h next g e f =
+    let z = plain-guard m (h .held .0) (h .count .0) (differAtOnce (width m) (h .bits) line) g in
+    let c : pushes m h (bits (width m) line) .count .0 ≡ 0 =
+    subst (λ (k : ℕ). pushes m h (bits k line) .count .0 ≡ 0) (width-suc m) (plain-count m h (line / 2 ^ (width m - 1) % 2) (bits (width m - 1) line) g) in
+    scramble-law m role d line 0 line h (record { line = line; next = next }) 0 e (z .0) (sym (xor-zero-r line)) refl
+    (ap (λ (k : Register). k .bits) f) (ap (λ (k : Register). k .held .0) f) (ap (λ (k : Register). k .count .0) f ∙ c) (z .1)
 
 -- the data bits of a group, as the answer has them
 module _ (m role : ℕ) (h : Register) (g : ℕ) where
@@ -180,20 +354,23 @@ module _ (m role : ℕ) (h : Register) (g : ℕ) where
   group-unsettled =
       ap unsettledIn group-marks ∙ unsettled-marked (capacity m - h .held .0) (unmixed m role h (bits (width m) g)) ∙ ap (min (capacity m - h .held .0)) group-length
 
-  group-plain : plainOf (descramble m role h (bits (width m) g)) ≡ mixedAtOnce m role (h .bits) g % 2 ^ (width m - (capacity m - h .held .0))
+  group-plain : plainOf (descramble m role h (bits (width m) g)) ≡ mixedWith m role h g g % 2 ^ (width m - (capacity m - h .held .0))
   group-plain =
       ap plainOf group-marks ∙ plain-marked (capacity m - h .held .0) (unmixed m role h (bits (width m) g)) (bits-unmixed m role h (bits (width m) g))
-      ∙ ap₂ (λ (x k : ℕ). x % 2 ^ (k - (capacity m - h .held .0))) (unmixed-at-once m role h g) group-length
+      ∙ ap₂ (λ (x k : ℕ). x % 2 ^ (k - (capacity m - h .held .0))) (with-value m role h g g _ (unmixed-at-once m role h g .0)) group-length
 
-  pub descramble-law : (w full u all plain : ℕ) (next : Register) → w ≡ width m → full ≡ capacity m → u ≡ min (full - h .held .0) w → all ≡ mixedAtOnce m role (h .bits) g
-      → plain ≡ all % 2 ^ (w - u) → next ≡ pushes m h (bits (width m) g)
+  pub descramble-law : (w full u all inv plain c : ℕ) (next : Register) → w ≡ width m → full ≡ capacity m → u ≡ min (full - h .held .0) w
+      → all ≡ mixedAtOnce m role (h .bits) g → inv ≡ inverted m (width m) h g → plain ≡ bitXor all inv % 2 ^ (w - u)
+      → next .bits ≡ pushes m h (bits (width m) g) .bits → next .held .0 ≡ pushes m h (bits (width m) g) .held .0
+      → next .count .0 ≡ c → c ≡ countOver m (h .held .0) (h .count .0) (bits (width m) (differAtOnce (width m) (h .bits) g))
       → _≡_ {A = Descrambled} (record { plain = plain; unsettled = record { 0 = u }; next = next }) (descrambled m role h g)
   unfolding descrambled
-  descramble-law w full u all plain next ew ef eu ea ep en =
+  descramble-law w full u all inv plain c next ew ef eu ea ei ep eb eh en ec =
       let x : u ≡ unsettledIn (descramble m role h (bits (width m) g)) = eu ∙ ap₂ (λ (i j : ℕ). min (i - h .held .0) j) ef ew ∙ sym group-unsettled in
       let k : w - u ≡ width m - (capacity m - h .held .0) = omega arith in
-      let y : plain ≡ plainOf (descramble m role h (bits (width m) g)) = ep ∙ ap₂ (λ (i j : ℕ). i % 2 ^ j) ea k ∙ sym group-plain in
-      λ i. record { plain = y i; unsettled = record { 0 = x i }; next = en i }
+      let y : plain ≡ plainOf (descramble m role h (bits (width m) g)) = ep ∙ ap₂ (λ (i j : ℕ). i % 2 ^ j) (ap₂ bitXor ea ei) k ∙ sym group-plain in
+      let n : next ≡ pushes m h (bits (width m) g) = same-register next _ eb eh (en ∙ ec ∙ sym (unmixed-at-once m role h g .1)) in
+      λ i. record { plain = y i; unsettled = record { 0 = x i }; next = n i }
 
   -- a group's marks and data bits are read back from the numbers
   pub group-read : marked (unsettledIn (descramble m role h (bits (width m) g))) (bits (width m) (plainOf (descramble m role h (bits (width m) g)))) ≡ descramble m role h (bits (width m) g)
@@ -205,10 +382,6 @@ module _ (m role : ℕ) (h : Register) (g : ℕ) where
       ds₀ : List Datum
       ds₀ = marked (capacity m - h .held .0) (unmixed m role h (bits (width m) g))
 
-pub mixed-small : (m role n x : ℕ) → mixedAtOnce m role n x < 2 ^ width m
-unfolding mixedAtOnce
-mixed-small m role n x = mod-lt (bitXor (bitXor x (n / 2 ^ (nearTap m role - width m))) (n / 2 ^ (farTap m - width m))) (pow-pos (width m))
-
 -- a group's numbers are small, so that one byte holds both
 pub descrambled-small : (m role : ℕ) (h : Register) (g : ℕ) → (descrambled m role h g .plain < 16) × (descrambled m role h g .unsettled .0 ≤ 4)
 unfolding descrambled width
@@ -216,42 +389,82 @@ descrambled-small m role h g =
     let p = group-plain m role h g in
     let u = group-unsettled m role h g in
     let w : 2 ^ width m ≤ 16 = by-all (λ (k : ℕ). 2 ^ k ≤ 16) 2 3 2 4 (omega arith) (omega arith) (omega arith) (omega arith) m in
-    let a = mixed-small m role (h .bits) g in
-    let b = mod-le (mixedAtOnce m role (h .bits) g) (2 ^ (width m - (capacity m - h .held .0))) in
+    let a = with-small m role h g g in
+    let b = mod-le (mixedWith m role h g g) (2 ^ (width m - (capacity m - h .held .0))) in
     let r = width-range m .1 in
     (omega arith, omega arith)
 
 -- the mixed bits are no more than w
-pub all-small : (m role n g w all : ℕ) → w ≡ width m → all ≡ mixedAtOnce m role n g → all < 2 ^ w
-all-small m role n g w all ew ea = subst⁻¹ (λ (k : ℕ). all < 2 ^ k) ew (subst⁻¹ (λ (x : ℕ). x < 2 ^ width m) ea (mixed-small m role n g))
+pub all-small : (m role : ℕ) (h : Register) (g w all inv : ℕ) → w ≡ width m → all ≡ mixedAtOnce m role (h .bits) g → inv ≡ inverted m (width m) h g → bitXor all inv < 2 ^ w
+all-small m role h g w all inv ew ea ei =
+    subst⁻¹ (λ (k : ℕ). bitXor all inv < 2 ^ k) ew (subst⁻¹ (λ (x : ℕ). x < 2 ^ width m) (ap₂ bitXor ea ei) (with-small m role h g g))
 
 -- a group after a full register
-module _ (m role n g : ℕ) where
-  pub full-law : (w full low size next plain : ℕ) → w ≡ width m → full ≡ capacity m → low ≡ g % 2 ^ width m → size ≡ 2 ^ w → next ≡ (n * size + low) % 2 ^ capacity m
-      → plain ≡ mixedAtOnce m role n g
-      → _≡_ {A = Descrambled} (record { plain = plain; unsettled = record { 0 = 0 }; next = register next full }) (descrambled m role (register n (capacity m)) g)
-  full-law w full low size next plain ew ef el es en ep =
-      let h : Register = register n (capacity m) in
-      let small : plain < 2 ^ (w - 0) = subst⁻¹ (λ (k : ℕ). plain < 2 ^ k) (sub-zero w) (all-small m role n g w plain ew ep) in
+module _ (m role n c g : ℕ) where
+  pub full-law : (w full low size next all inv count : ℕ) → w ≡ width m → full ≡ capacity m → low ≡ g % 2 ^ width m → size ≡ 2 ^ w → next ≡ (n * size + low) % 2 ^ capacity m
+      → all ≡ mixedAtOnce m role n g → inv ≡ value (inversions m full c (bits (width m) (differAtOnce (width m) n g)))
+      → count ≡ countOver m full c (bits (width m) (differAtOnce (width m) n g))
+      → _≡_ {A = Descrambled} (record { plain = bitXor all inv; unsettled = record { 0 = 0 }; next = register next full count }) (descrambled m role (register n (capacity m) c) g)
+  full-law w full low size next all inv count ew ef el es en ea ei ec =
+      let h : Register = register n (capacity m) c in
+      let fs : List ℕ = bits (width m) (differAtOnce (width m) n g) in
+      let ei′ : inv ≡ inverted m (width m) h g = ei ∙ ap (λ (k : ℕ). value (inversions m k c fs)) ef in
+      let small : bitXor all inv < 2 ^ (w - 0) = subst⁻¹ (λ (k : ℕ). bitXor all inv < 2 ^ k) (sub-zero w) (all-small m role h g w all inv ew ea ei′) in
       let u : 0 ≡ min (full - capacity m) w = omega arith in
       let k : full ≡ min (capacity m + w) full = omega arith in
-      descramble-law m role h g w full 0 plain plain (register next full) ew ef u ep (sym (mod-eq-of-lt small)) (push-law m h g w full low size next full ew ef el es en k)
+      let p = push-law m h g w full low size next full ew ef el es en k in
+      descramble-law m role h g w full 0 all inv (bitXor all inv) count (register next full count) ew ef u ea ei′ (sym (mod-eq-of-lt small)) (p .0) (p .1) refl (ec ∙ ap (λ (k : ℕ). countOver m k c fs) ef)
 
-  -- its data bits are settled, and the register stays full
-  pub after-full : (descrambled m role (register n (capacity m)) g .unsettled .0 ≡ 0) × (descrambled m role (register n (capacity m)) g .next .held .0 ≡ capacity m)
-  after-full =
-      let e = full-law (width m) (capacity m) _ _ _ _ refl refl refl refl refl refl in
-      (sym (ap (λ (d : Descrambled). d .unsettled .0) e), sym (ap (λ (d : Descrambled). d .next .held .0) e))
+  -- the same without the guard
+  pub plain-full-law : (w full low size next all : ℕ) → guarded m ≡ false → w ≡ width m → full ≡ capacity m → low ≡ g % 2 ^ width m → size ≡ 2 ^ w → next ≡ (n * size + low) % 2 ^ capacity m
+      → all ≡ mixedAtOnce m role n g
+      → _≡_ {A = Descrambled} (record { plain = all; unsettled = record { 0 = 0 }; next = register next full 0 }) (descrambled m role (register n (capacity m) c) g)
+  plain-full-law w full low size next all p ew ef el es en ea =
+      let z = plain-guard m full c (differAtOnce (width m) n g) p in
+      ap (λ (x : ℕ). record { plain = x; unsettled = record { 0 = 0 }; next = register next full 0 }) (sym (xor-zero-r all))
+      ∙ full-law w full low size next all 0 0 ew ef el es en ea (z .0) (z .1)
 
--- two modes of the same parameters descramble alike
-abbrev full-group : (m role n g : ℕ) → Descrambled
-full-group m role n g =
-    record { plain = mixedAtOnce m role n g; unsettled = record { 0 = 0 }; next = register ((n * 2 ^ width m + g % 2 ^ width m) % 2 ^ capacity m) (capacity m) }
+  -- the same as one value, and that its data bits are settled and the register stays full
+  full-group : Descrambled
+  full-group =
+      record {
+        plain = bitXor (mixedAtOnce m role n g) (value (inversions m (capacity m) c (bits (width m) (differAtOnce (width m) n g))));
+        unsettled = record { 0 = 0 };
+        next = register ((n * 2 ^ width m + g % 2 ^ width m) % 2 ^ capacity m) (capacity m) (countOver m (capacity m) c (bits (width m) (differAtOnce (width m) n g)));
+      }
 
-pub column-law : (k m role n g : ℕ) (d : Descrambled) → d ≡ descrambled k role (register n (capacity k)) g → width k ≡ width m → capacity k ≡ capacity m → nearTap k role ≡ nearTap m role → farTap k ≡ farTap m
-    → d ≡ descrambled m role (register n (capacity m)) g
-column-law k m role n g d e ew ec en ef =
-    let whole : (i : ℕ) → full-group i role n g ≡ descrambled i role (register n (capacity i)) g =
-    λ i. full-law i role n g (width i) (capacity i) _ _ _ _ refl refl refl refl refl refl in
-    let same : full-group k role n g ≡ full-group m role n g = unfold mixedAtOnce in (rw (ew, ec, en, ef)) in
-    e ∙ sym (whole k) ∙ same ∙ whole m
+  full-whole : full-group ≡ descrambled m role (register n (capacity m) c) g
+  unfolding full-group
+  full-whole = full-law (width m) (capacity m) _ _ _ _ _ _ refl refl refl refl refl refl refl refl
+
+  pub after-full : (descrambled m role (register n (capacity m) c) g .unsettled .0 ≡ 0) × (descrambled m role (register n (capacity m) c) g .next .held .0 ≡ capacity m)
+  unfolding full-group
+  after-full = (sym (ap (λ (d : Descrambled). d .unsettled .0) full-whole), sym (ap (λ (d : Descrambled). d .next .held .0) full-whole))
+
+-- two modes of one column, without the guard, descramble alike, whatever is counted
+pub column-law : (k m role n c g : ℕ) (d : Descrambled) → d ≡ descrambled k role (register n (capacity k) 0) g → guarded k ≡ false → guarded m ≡ false
+    → ((x y z w : ℕ) → byMode k x y z w ≡ byMode m x y z w) → d ≡ descrambled m role (register n (capacity m) c) g
+unfolding full-group width farTap nearTap
+column-law k m role n c g d e gk gm read =
+    let ew : width k ≡ width m = read 2 3 2 4 in
+    let ef : farTap k ≡ farTap m = read 7 7 23 23 in
+    let en : nearTap k role ≡ nearTap m role = read 6 6 _ _ in
+    let ec : capacity k ≡ capacity m = sym (kept-plain k gk) ∙ ef ∙ kept-plain m gm in
+    let pk = plain-guard k (capacity k) 0 (differAtOnce (width k) n g) gk in
+    let pm = plain-guard m (capacity m) c (differAtOnce (width m) n g) gm in
+    let x : mixedAtOnce k role n g ≡ mixedAtOnce m role n g = same-mix k m role n g ew en ef in
+    let y : ℕ → ℕ → ℕ = λ w r. (n * 2 ^ w + g % 2 ^ w) % 2 ^ r in
+    let plain : full-group k role n 0 g .plain ≡ full-group m role n c g .plain = ap₂ bitXor x (sym (pk .0) ∙ pm .0) in
+    let next : full-group k role n 0 g .next ≡ full-group m role n c g .next =
+    same-register _ _ (ap₂ y ew ec) ec (sym (pk .1) ∙ pm .1) in
+    e ∙ sym (full-whole k role n 0 g) ∙ (λ i. record { plain = plain i; unsettled = record { 0 = 0 }; next = next i }) ∙ full-whole m role n c g
+
+-- and without the guard as the column, whatever is counted
+pub next-law : (m role n c g : ℕ) (d : Descrambled) → d ≡ descrambled (column m) role (register n (capacity (column m)) 0) g → guarded m ≡ false
+    → d ≡ descrambled m role (register n (capacity m) c) g
+next-law m role n c g d e p =
+    column-law m m role n c g d (e ∙ ap (λ (k : ℕ). descrambled k role (register n (capacity k) 0) g) (plain-column m p)) p p (λ x y z w. refl)
+
+pub zeros-sent : ZerosSent
+unfolding farTap guarded capacity back nearTap counting inverting differs countAfter push mix
+zeros-sent = (refl, refl)

@@ -1,19 +1,23 @@
-// The scrambler's register, and scrambling and descrambling the bits of a point: document 01.
+// The scrambler's register, and scrambling and descrambling the bits of a point: document 01; the guard of modes 5 and 6: document 02, R-6.
 ghost use mathlib.Core.Path.{_≡_};
-ghost use Prim.Native.Nat.{_-_, _^_, _%_, _≤_, _<_, min};
-ghost use Rattle.line.specs.Mode.{width, farTap, capacity};
-ghost use Rattle.scrambler.specs.Bits.{bits};
+ghost use mathlib.Core.Bool.{true, _&&_, cond};
+ghost use lib.Dec.{leb};
+ghost use mathlib.Core.List.{_∷_, []};
+ghost use Prim.Native.Nat.{_+_, _*_, _-_, _^_, _%_, _≤_, _<_, min};
+ghost use Rattle.line.specs.Mode.{column, width, farTap, guarded, capacity};
+ghost use Rattle.scrambler.specs.Bits.{bits, value};
 ghost use Rattle.scrambler.specs.Register.{register, fresh, nearTap, pushes, registerOk};
 ghost use Rattle.scrambler.specs.Group.{scrambled, descrambled};
-ghost use Rattle.scrambler.specs.Windows.{mixedAtOnce};
+ghost use Rattle.scrambler.specs.Windows.{mixedAtOnce, differAtOnce, inversion, counted, inversions, countOver};
 
 // A count of bits, never to be taken for one of unit intervals.
 pub struct BitCount(pub u8);
 
-// The last line bits as a number, the newest lowest, and how many there are.
+// The last line bits as a number, the newest lowest, how many there are, and the guard's count.
 pub struct Register {
     pub bits: u32,
     pub held: BitCount,
+    pub count: BitCount,
 }
 
 // A group of line bits, the first in time highest, and the register after it.
@@ -36,6 +40,18 @@ pub fn fresh_register() -> Register
     Register {
         bits: 0,
         held: BitCount(0),
+        count: BitCount(0),
+    }
+}
+
+// The greatest count that number 4 lets pass with so many line bits.
+fn count_limit(mode: u8, held: u8) -> u8
+    ensures { λ r. ⌜ r ≡ cond (guarded mode && leb (capacity mode) held) 33 0 ⌝ }
+{
+    if line::has_guard(mode) & (line::capacity_of(mode) <= held) {
+        33
+    } else {
+        0
     }
 }
 
@@ -45,19 +61,23 @@ pub fn register_ok(mode: u8, h: Register) -> bool
 {
     let held = h.held.0;
     let bits = h.bits;
+    let count = h.count.0;
     if held <= line::capacity_of(mode) {
-        bits >> (held as u32) == 0
+        (bits >> (held as u32) == 0) & (count <= count_limit(mode, held))
     } else {
         false
     }
 }
 
+// ---- without the guard: a mode's column c, 1 to 4
+
 // The nearer tap.
-fn near_tap(mode: u8, role: u8) -> u8
-    ensures { λ r. ⌜ r ≡ nearTap mode role ⌝ }
+fn near_tap(c: u8, role: u8) -> u8
+    requires { ⌜ c ≤ 4 ⌝ }
+    ensures { λ r. ⌜ r ≡ nearTap c role ⌝ }
     ensures { λ r. ⌜ (5 ≤ r) × (r ≤ 18) ⌝ }
 {
-    if mode <= 2 {
+    if c <= 2 {
         6
     } else if role == 0 {
         18
@@ -67,23 +87,49 @@ fn near_tap(mode: u8, role: u8) -> u8
 }
 
 // The farther tap.
-fn far_tap(mode: u8) -> u8
-    ensures { λ r. ⌜ r ≡ farTap mode ⌝ }
+fn far_tap(c: u8) -> u8
+    requires { ⌜ c ≤ 4 ⌝ }
+    ensures { λ r. ⌜ r ≡ farTap c ⌝ }
     ensures { λ r. ⌜ (7 ≤ r) × (r ≤ 23) ⌝ }
 {
-    if mode <= 2 { 7 } else { 23 }
+    if c <= 2 { 7 } else { 23 }
+}
+
+// The line bits in a point.
+fn width_in(c: u8) -> u8
+    requires { ⌜ c ≤ 4 ⌝ }
+    ensures { λ r. ⌜ r ≡ width c ⌝ }
+{
+    if c <= 1 {
+        2
+    } else if c == 2 {
+        3
+    } else if c == 3 {
+        2
+    } else {
+        4
+    }
+}
+
+// The line bits that a register keeps.
+fn capacity_in(c: u8) -> u8
+    requires { ⌜ c ≤ 4 ⌝ }
+    ensures { λ r. ⌜ r ≡ capacity c ⌝ }
+{
+    if c <= 2 { 7 } else { 23 }
 }
 
 // The lowest w bits of a number.
-fn low_bits(mode: u8, x: u32) -> u8
-    ensures { λ r. ⌜ r ≡ x % 2 ^ width mode ⌝ }
+fn low_bits(c: u8, x: u32) -> u8
+    requires { ⌜ c ≤ 4 ⌝ }
+    ensures { λ r. ⌜ r ≡ x % 2 ^ width c ⌝ }
     ensures { λ r. ⌜ r < 16 ⌝ }
 {
-    if mode <= 1 {
+    if c <= 1 {
         (x % 4) as u8
-    } else if mode == 2 {
+    } else if c == 2 {
         (x % 8) as u8
-    } else if mode == 3 {
+    } else if c == 3 {
         (x % 4) as u8
     } else {
         (x % 16) as u8
@@ -91,10 +137,11 @@ fn low_bits(mode: u8, x: u32) -> u8
 }
 
 // The lowest bits of a number, as many as a register keeps.
-fn keep_bits(mode: u8, x: u64) -> u32
-    ensures { λ r. ⌜ r ≡ x % 2 ^ capacity mode ⌝ }
+fn keep_bits(c: u8, x: u64) -> u32
+    requires { ⌜ c ≤ 4 ⌝ }
+    ensures { λ r. ⌜ r ≡ x % 2 ^ capacity c ⌝ }
 {
-    if mode <= 2 {
+    if c <= 2 {
         (x % 128) as u32
     } else {
         (x % 8388608) as u32
@@ -102,36 +149,33 @@ fn keep_bits(mode: u8, x: u64) -> u32
 }
 
 // The bits of a group xor those a and R back.
-fn mixed(mode: u8, role: u8, n: u32, x: u8) -> u8
-    ensures { λ r. ⌜ r ≡ mixedAtOnce mode role n x ⌝ }
+fn mixed(c: u8, role: u8, n: u32, x: u8) -> u8
+    requires { ⌜ c ≤ 4 ⌝ }
+    ensures { λ r. ⌜ r ≡ mixedAtOnce c role n x ⌝ }
     ensures { λ r. ⌜ r < 16 ⌝ }
 {
-    let w = line::width_of(mode);
-    let near = (near_tap(mode, role) - w) as u32;
-    let far = (far_tap(mode) - w) as u32;
-    low_bits(mode, (x as u32) ^ (n >> near) ^ (n >> far))
+    let w = width_in(c);
+    let near = (near_tap(c, role) - w) as u32;
+    let far = (far_tap(c) - w) as u32;
+    low_bits(c, (x as u32) ^ (n >> near) ^ (n >> far))
 }
 
 // The register after a group.
-fn push_group(mode: u8, h: Register, g: u8) -> Register
-    ensures { λ r. ⌜ r ≡ pushes mode h (bits (width mode) g) ⌝ }
+fn push_group(c: u8, h: Register, g: u8) -> Register
+    requires { ⌜ c ≤ 4 ⌝ }
+    ensures { λ r. ⌜ r ≡ pushes c h (bits (width c) g) ⌝ }
 {
     let n = h.bits as u64;
     let held = h.held.0;
-    let w = line::width_of(mode);
-    let full = line::capacity_of(mode);
-    let low = low_bits(mode, g as u32) as u64;
-    let next = keep_bits(mode, n * group_size(w) + low);
-    if full - w <= held {
-        Register {
-            bits: next,
-            held: BitCount(full),
-        }
-    } else {
-        Register {
-            bits: next,
-            held: BitCount(held + w),
-        }
+    let w = width_in(c);
+    let full = capacity_in(c);
+    let low = low_bits(c, g as u32) as u64;
+    let bits = keep_bits(c, n * group_size(w) + low);
+    let more = if full - w <= held { full } else { held + w };
+    Register {
+        bits,
+        held: BitCount(more),
+        count: BitCount(0),
     }
 }
 
@@ -150,18 +194,221 @@ fn group_size(w: u8) -> u64
     }
 }
 
-// The line bits of w data bits.
-pub fn scramble_group(mode: u8, role: u8, h: Register, plain: u8) -> Scrambled
-    ensures { λ r. ⌜ r ≡ scrambled mode role h plain ⌝ }
+// The line bits of w data bits in the mode of the column. It has one caller, so that it is put in line there.
+pub fn scramble_plain(mode: u8, role: u8, h: Register, plain: u8) -> Scrambled
+    ensures { λ r. ⌜ r ≡ scrambled (column mode) role h plain ⌝ }
 {
-    let line = mixed(mode, role, h.bits, plain);
+    let c = line::column_of(mode);
+    let line = mixed(c, role, h.bits, plain);
     Scrambled {
         line,
-        next: push_group(mode, h, line),
+        next: push_group(c, h, line),
     }
 }
 
-// How many of w data bits are unsettled. With an early return `descramble_group` is just too large to be put in line.
+// The data bits of w line bits after a full register of bits n, as nearly all points find it: nothing is counted.
+fn next_bits(c: u8, role: u8, n: u32, line: u8) -> Descrambled
+    requires { ⌜ c ≤ 4 ⌝ }
+    ensures { λ r. ⌜ r ≡ descrambled c role (register n (capacity c) 0) line ⌝ }
+{
+    let low = low_bits(c, line as u32) as u64;
+    let bits = keep_bits(c, (n as u64) * group_size(width_in(c)) + low);
+    Descrambled {
+        plain: mixed(c, role, n, line),
+        unsettled: BitCount(0),
+        next: Register {
+            bits,
+            held: BitCount(capacity_in(c)),
+            count: BitCount(0),
+        },
+    }
+}
+
+// The same with a way of its own for each column: there all that depends on it is a constant, and the function is small enough to be put
+// in line in both of its callers.
+pub fn descramble_next(mode: u8, role: u8, n: u32, line: u8) -> Descrambled
+    ensures { λ r. ⌜ r ≡ descrambled (column mode) role (register n (capacity (column mode)) 0) line ⌝ }
+{
+    let c = line::column_of(mode);
+    if c <= 1 {
+        next_bits(1, role, n, line)
+    } else if c == 2 {
+        next_bits(2, role, n, line)
+    } else if c == 3 {
+        next_bits(3, role, n, line)
+    } else {
+        next_bits(4, role, n, line)
+    }
+}
+
+// ---- with the guard
+
+// What the guard does to a group: the bits that it inverts, the first in time highest, and its count after them.
+struct Guarded {
+    held: u8,
+    count: u8,
+    inverted: u8,
+}
+
+// The count after a line bit; `differs` is 1 if the bit differs from all three.
+fn next_count(held: u8, count: u8, differs: u8) -> u8
+    ensures { λ r. ⌜ r ≡ counted 6 held count differs ⌝ }
+{
+    if held < 12 {
+        return 0;
+    }
+    if 33 <= count {
+        return 0;
+    }
+    if differs == 1 { 0 } else { count + 1 }
+}
+
+// 1 if the next line bit is inverted.
+fn inverts(held: u8, count: u8) -> u8
+    ensures { λ r. ⌜ r ≡ inversion 6 held count ⌝ }
+    ensures { λ r. ⌜ r ≤ 1 ⌝ }
+{
+    if held < 12 {
+        return 0;
+    }
+    if 33 <= count { 1 } else { 0 }
+}
+
+// How many line bits are held after one more.
+fn next_held(held: u8) -> u8
+    ensures { λ r. ⌜ r ≡ min (held + 1) (capacity 6) ⌝ }
+{
+    if held < 12 { held + 1 } else { 12 }
+}
+
+// One bit further.
+fn guard_bit(g: Guarded, differs: u8) -> Guarded
+    requires { ⌜ g .inverted < 8 ⌝ }
+    ensures { λ r. ⌜ (r .held ≡ min (g .held + 1) (capacity 6)) × (r .count ≡ counted 6 (g .held) (g .count) differs) × (r .inverted ≡ 2 * g .inverted + inversion 6 (g .held) (g .count)) ⌝ }
+    ensures { λ r. ⌜ r .inverted ≤ 2 * g .inverted + 1 ⌝ }
+{
+    Guarded {
+        held: next_held(g.held),
+        count: next_count(g.held, g.count, differs),
+        inverted: 2 * g.inverted + inverts(g.held, g.count),
+    }
+}
+
+// The bits of a group that differ from all three line bits 8, 9 and 12 back, in its lowest bits.
+fn differing(w: u8, n: u32, y: u8) -> u32
+    requires { ⌜ (2 ≤ w) × (w ≤ 4) ⌝ }
+    ensures { λ r. ⌜ r ≡ differAtOnce w n y ⌝ }
+{
+    let x = y as u32;
+    let k = w as u32;
+    (x ^ (n >> (8 - k))) & (x ^ (n >> (9 - k))) & (x ^ (n >> (12 - k)))
+}
+
+// The guard along a group, bit by bit.
+fn guard_bits(w: u8, g: Guarded, d: u32) -> Guarded
+    requires { ⌜ (2 ≤ w) × (w ≤ 3) × (g .inverted ≡ 0) ⌝ }
+    ensures { λ r. ⌜ (r .inverted ≡ value (inversions 6 (g .held) (g .count) (bits w d))) × (r .count ≡ countOver 6 (g .held) (g .count) (bits w d)) ⌝ }
+    ensures { λ r. ⌜ r .inverted < 8 ⌝ }
+{
+    if w == 3 {
+        let a = guard_bit(g, (d / 4 % 2) as u8);
+        let b = guard_bit(a, (d / 2 % 2) as u8);
+        return guard_bit(b, (d % 2) as u8);
+    }
+    let b = guard_bit(g, (d / 2 % 2) as u8);
+    guard_bit(b, (d % 2) as u8)
+}
+
+// What the guard does to the line bits y of a group after the line bits n. Up to a count of 30 nothing is inverted in a group: that is said
+// ahead, so that no line bit waits for the count.
+fn guard(mode: u8, held: u8, count: u8, n: u32, y: u8) -> Guarded
+    requires { ⌜ guarded mode ≡ true ⌝ }
+    ensures { λ r. ⌜ (r .inverted ≡ value (inversions mode held count (bits (width mode) (differAtOnce (width mode) n y)))) × (r .count ≡ countOver mode held count (bits (width mode) (differAtOnce (width mode) n y))) ⌝ }
+    ensures { λ r. ⌜ r .inverted < 8 ⌝ }
+{
+    let w = line::width_of(mode);
+    let g = guard_bits(
+        w,
+        Guarded {
+            held,
+            count,
+            inverted: 0,
+        },
+        differing(w, n, y),
+    );
+    if count <= 30 {
+        return Guarded {
+            held: g.held,
+            count: g.count,
+            inverted: 0,
+        };
+    }
+    g
+}
+
+// The same for any mode: without the guard nothing is inverted and nothing counted.
+fn guard_of(mode: u8, held: u8, count: u8, n: u32, y: u8) -> Guarded
+    ensures { λ r. ⌜ (r .inverted ≡ value (inversions mode held count (bits (width mode) (differAtOnce (width mode) n y)))) × (r .count ≡ countOver mode held count (bits (width mode) (differAtOnce (width mode) n y))) ⌝ }
+    ensures { λ r. ⌜ r .inverted < 8 ⌝ }
+{
+    if line::has_guard(mode) {
+        return guard(mode, held, count, n, y);
+    }
+    Guarded {
+        held,
+        count: 0,
+        inverted: 0,
+    }
+}
+
+// The lowest bits of a number, as many as a mode's register keeps.
+fn keep_of(mode: u8, x: u64) -> u32
+    ensures { λ r. ⌜ r ≡ x % 2 ^ capacity mode ⌝ }
+{
+    if line::has_guard(mode) {
+        return (x % 4096) as u32;
+    }
+    keep_bits(line::column_of(mode), x)
+}
+
+// The register after a group of any mode, with the guard's count after it.
+fn push_counted(mode: u8, h: Register, g: u8, count: u8) -> Register
+    ensures { λ r. ⌜ (r .bits ≡ pushes mode h (bits (width mode) g) .bits) × (r .held .0 ≡ pushes mode h (bits (width mode) g) .held .0) × (r .count .0 ≡ count) ⌝ }
+{
+    let n = h.bits as u64;
+    let held = h.held.0;
+    let w = line::width_of(mode);
+    let full = line::capacity_of(mode);
+    let low = low_bits(line::column_of(mode), g as u32) as u64;
+    let bits = keep_of(mode, n * group_size(w) + low);
+    let more = if full - w <= held { full } else { held + w };
+    Register {
+        bits,
+        held: BitCount(more),
+        count: BitCount(count),
+    }
+}
+
+// The line bits of w data bits, after a register given by its fields: a register that is handed over as one piece would have to stand in
+// memory in the caller's loop, also where this is not called.
+pub fn scramble_group(mode: u8, role: u8, n: u32, held: u8, count: u8, plain: u8) -> Scrambled
+    ensures { λ r. ⌜ r ≡ scrambled mode role (register n held count) plain ⌝ }
+{
+    let all = mixed(line::column_of(mode), role, n, plain);
+    let g = guard_of(mode, held, count, n, all);
+    let line = all ^ g.inverted;
+    let h = Register {
+        bits: n,
+        held: BitCount(held),
+        count: BitCount(count),
+    };
+    Scrambled {
+        line,
+        next: push_counted(mode, h, line, g.count),
+    }
+}
+
+// How many of w data bits are unsettled.
 fn unsettled_bits(w: u8, full: u8, held: u8) -> u8
     ensures { λ r. ⌜ r ≡ min (full - held) w ⌝ }
 {
@@ -189,49 +436,55 @@ fn without_first(w: u8, u: u8, x: u8) -> u8
     }
 }
 
-// The data bits of w line bits.
-pub fn descramble_group(mode: u8, role: u8, h: Register, line: u8) -> Descrambled
-    ensures { λ r. ⌜ r ≡ descrambled mode role h line ⌝ }
+// The data bits of w line bits, likewise.
+pub fn descramble_group(mode: u8, role: u8, n: u32, held: u8, count: u8, line: u8) -> Descrambled
+    ensures { λ r. ⌜ r ≡ descrambled mode role (register n held count) line ⌝ }
 {
-    let held = h.held.0;
     let w = line::width_of(mode);
     let u = unsettled_bits(w, line::capacity_of(mode), held);
-    let all = mixed(mode, role, h.bits, line);
+    let g = guard_of(mode, held, count, n, line);
+    let all = mixed(line::column_of(mode), role, n, line) ^ g.inverted;
+    let h = Register {
+        bits: n,
+        held: BitCount(held),
+        count: BitCount(count),
+    };
     Descrambled {
         plain: without_first(w, u, all),
         unsettled: BitCount(u),
-        next: push_group(mode, h, line),
+        next: push_counted(mode, h, line, g.count),
     }
 }
 
-// The same after a full register of bits n, as nearly all points find it: nothing is counted.
-fn next_bits(mode: u8, role: u8, n: u32, line: u8) -> Descrambled
-    ensures { λ r. ⌜ r ≡ descrambled mode role (register n (capacity mode)) line ⌝ }
+// The same after a full register of bits n and a count.
+fn counted_bits(mode: u8, role: u8, n: u32, count: u8, line: u8) -> Descrambled
+    ensures { λ r. ⌜ r ≡ descrambled mode role (register n (capacity mode) count) line ⌝ }
 {
-    let low = low_bits(mode, line as u32) as u64;
-    let bits = keep_bits(mode, (n as u64) * group_size(line::width_of(mode)) + low);
+    let c = line::column_of(mode);
+    let low = low_bits(c, line as u32) as u64;
+    let bits = keep_of(mode, (n as u64) * group_size(line::width_of(mode)) + low);
+    let full = line::capacity_of(mode);
+    let g = guard_of(mode, full, count, n, line);
     Descrambled {
-        plain: mixed(mode, role, n, line),
+        plain: mixed(c, role, n, line) ^ g.inverted,
         unsettled: BitCount(0),
         next: Register {
             bits,
-            held: BitCount(line::capacity_of(mode)),
+            held: BitCount(full),
+            count: BitCount(g.count),
         },
     }
 }
 
-// The same with a way of its own for each mode: there all that depends on the mode is a constant, and the function is small enough to
-// be put in line in both of its callers.
-pub fn descramble_next(mode: u8, role: u8, n: u32, line: u8) -> Descrambled
-    ensures { λ r. ⌜ r ≡ descrambled mode role (register n (capacity mode)) line ⌝ }
+// The same with a way of its own for each mode with the guard.
+pub fn descramble_counted(mode: u8, role: u8, n: u32, count: u8, line: u8) -> Descrambled
+    ensures { λ r. ⌜ r ≡ descrambled mode role (register n (capacity mode) count) line ⌝ }
 {
-    if mode <= 1 {
-        next_bits(1, role, n, line)
-    } else if mode == 2 {
-        next_bits(2, role, n, line)
-    } else if mode == 3 {
-        next_bits(3, role, n, line)
-    } else {
-        next_bits(4, role, n, line)
+    if mode == 5 {
+        return counted_bits(5, role, n, count, line);
     }
+    if mode == 6 {
+        return counted_bits(6, role, n, count, line);
+    }
+    counted_bits(mode, role, n, count, line)
 }

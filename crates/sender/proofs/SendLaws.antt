@@ -1,6 +1,7 @@
 -- Sending groups: one turn of the point writer's loop, and what a lent part becomes. Assumes nothing.
 use Prim.Native.Nat.{ℕ, zero, suc, _+_, _*_, _-_, _%_, _<_, _≤_}
 use mathlib.Core.Path.{_≡_, refl, sym, _∙_, ap, ap₂}
+use mathlib.Core.Bool.{Bool, true, false, not, false≢true}
 use mathlib.Core.List.{List, [], _∷_}
 use native.Mathlib.Numerals.{sub-one, towards-suc}
 use native.Mathlib.Nat.{suc-mul, lt-irrefl, add-sub-cancel-left}
@@ -57,6 +58,11 @@ value-4 (a ∷ b ∷ c ∷ d ∷ []) e = omega arith
 value-4 (a ∷ b ∷ c ∷ d ∷ x ∷ xs) e = absurd (omega arith)
 
 -- A GROUP
+
+-- the code's test for the guard
+pub not-true : (g r : Bool) → r ≡ g → not r ≡ true → g ≡ false
+not-true g true e f = absurd (false≢true f)
+not-true g false e f = sym e
 
 pub group-law : (s : Sender) (plain r : ℕ) (d : Scrambled) → d ≡ scrambled (s .mode) (s .role) (s .line) plain
     → r ≡ coded (s .mode) (face (s .mode) (s .reference)) (d .line)

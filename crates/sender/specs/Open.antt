@@ -14,7 +14,7 @@ use Rattle.sender.specs.declared.Sender.{Sender}
 use Rattle.sender.specs.declared.Sent.{Sent}
 use Rattle.sender.specs.Sender.{senderOf, hasRoom, answered}
 
--- number 3: "training length not 0 or 1 (modes 1 and 2), not 1280 to 8192 (3 and 4)"
+-- number 3: "training length not 0 or 1 (modes 1 and 2), not 1280 to 8192 (3 and 4)"; modes 5 and 6 as 1 and 2
 unfoldable pub lengthOk : ℕ → ℕ → Bool
 lengthOk m n =
     let v27 : Bool = leb n 1 in

@@ -25,7 +25,8 @@ coderOf s = coder (s .reference) (s .line)
 abbrev pub senderOf : ℕ → ℕ → Coder → Sender
 senderOf m role c = record { mode = m; role = role; reference = c .reference; line = c .line }
 
--- number 4: "reference not a state of the mode, more than R line bits, in a sender fewer than R"
+-- number 4: "reference not a state of the mode, more than R line bits, in a sender fewer than R"; R-6: "number 4 reads 12 for R", and
+-- covers the count
 unfoldable pub fieldsOk : Sender → Bool
 fieldsOk s = isState (s .mode) (s .reference) && (eqb (s .line .held .0) (capacity (s .mode)) && registerOk (s .mode) (s .line))
 

@@ -5,7 +5,8 @@ ghost use lib.Dec.{T};
 ghost use lib.ListN.{length as size};
 ghost use lib.Seq.{sets};
 ghost use Rattle.line.specs.Table.{every};
-ghost use Rattle.line.specs.Mode.{width};
+ghost use mathlib.Core.Bool.{false};
+ghost use Rattle.line.specs.Mode.{guarded, width};
 ghost use Rattle.scrambler.specs.Bits.{isBit, bits, value};
 ghost use Rattle.training.specs.Training.{train, start, intervals, trained};
 ghost use Rattle.sender.specs.Sender.{fieldsOk, stateRefusal, hasRoom, dataRefusal, sendRefusal, afterGroup, afterBits, bitNumbers, sendAnswer, sendNumbers, Told};
@@ -103,19 +104,41 @@ fn group_value(group: &[u8]) -> u8
     2 * three + group[3]
 }
 
-// The sender after a group. It does what `training::code_group` does: with two callers that one would stay a call, which in
-// modes 1, 3 and 4 took longer than all else that is done for a point.
-fn send_group(s: Sender, plain: u8) -> Sender
+// The sender after a group, where there is no guard. It does what `training::code_group` does: with two callers that one would stay a
+// call, which in modes 1, 3 and 4 took longer than all else that is done for a point.
+fn send_plain(s: Sender, plain: u8) -> Sender
+    requires { ⌜ guarded (s .mode) ≡ false ⌝ }
     ensures { λ r. ⌜ r ≡ afterGroup s (bits (width (s .mode)) plain) ⌝ }
 {
     let register = s.line;
-    let d = scrambler::scramble_group(s.mode, s.role, register, plain);
-    let line = d.next;
+    let g = scrambler::scramble_plain(s.mode, s.role, register, plain);
+    let line = g.next;
+    Sender {
+        mode: s.mode,
+        role: s.role,
+        reference: coding::next_state(s.mode, s.reference, g.line),
+        line,
+    }
+}
+
+// The sender after a group.
+fn send_group(s: Sender, plain: u8) -> Sender
+    ensures { λ r. ⌜ r ≡ afterGroup s (bits (width (s .mode)) plain) ⌝ }
+{
+    if !line::has_guard(s.mode) {
+        return send_plain(s, plain);
+    }
+    let h = s.line;
+    let d = scrambler::scramble_group(s.mode, s.role, h.bits, h.held.0, h.count.0, plain);
     Sender {
         mode: s.mode,
         role: s.role,
         reference: coding::next_state(s.mode, s.reference, d.line),
-        line,
+        line: scrambler::Register {
+            bits: d.next.bits,
+            held: scrambler::BitCount(d.next.held.0),
+            count: scrambler::BitCount(d.next.count.0),
+        },
     }
 }
 
@@ -165,7 +188,7 @@ pub fn send(s: Sender, input: &[u8], out: &mut [i16], offset: usize) -> Sent
 fn length_ok(mode: u8, length: u32) -> bool
     ensures { λ r. ⌜ r ≡ lengthOk mode length ⌝ }
 {
-    if mode <= 2 {
+    if line::column_of(mode) <= 2 {
         length <= 1
     } else {
         (1280 <= length) & (length <= 8192)

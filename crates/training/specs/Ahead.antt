@@ -1,13 +1,13 @@
 -- How the code trains V.27 ter: by a table of the middle changes, so that no line bit of them is computed and the register stands from
 -- the start where they leave it.
 -- Nobody need believe this file: the statement `ByTable` at its end says that it is the training of `Training`.
-use Prim.Native.Nat.{ℕ, _+_, _*_, _-_, _%_}
+use Prim.Native.Nat.{ℕ, _+_, _*_, _-_, _^_, _%_}
 use mathlib.Core.Path.{_≡_}
 use mathlib.Core.Bool.{cond}
 use mathlib.Core.List.{List}
 use lib.Dec.{ltb}
 use lib.ListN.{getD, replicate}
-use Rattle.line.specs.Mode.{byMode, width}
+use Rattle.line.specs.Mode.{byMode, width, capacity}
 use Rattle.scrambler.specs.Register.{register}
 use Rattle.training.specs.declared.Coder.{Coder}
 use Rattle.training.specs.Coder.{coder, coding}
@@ -26,8 +26,8 @@ ahead t m role length i c =
 
 unfoldable pub aheadStart : ℕ → Coder
 aheadStart m =
-    let v27 : Coder = coder 0 (register 0b0010001 7) in
-    let v32 : Coder = coder 1 (register 0 23) in
+    let v27 : Coder = coder 0 (register (0b110100010001 % 2 ^ capacity m) (capacity m) 0) in
+    let v32 : Coder = coder 1 (register 0 (capacity m) 0) in
     byMode m v27 v27 v32 v32
 
 -- the states that a whole training sends, and what it leaves

@@ -1,4 +1,4 @@
--- Document 01, "Bench points", 5 to 7: training.
+-- Document 01, "Bench points", 5 to 7: training; and what the guard has counted after it (document 02, R-6).
 use Prim.Native.Nat.{ℕ, _+_, _-_}
 use mathlib.Core.Path.{_≡_}
 use mathlib.Core.List.{List, [], _∷_, _++_}
@@ -6,7 +6,7 @@ use lib.ListN.{replicate}
 use Rattle.line.specs.Mode.{face}
 use Rattle.coding.specs.Code.{eighths, group}
 use Rattle.training.specs.declared.Coder.{Coder}
-use Rattle.training.specs.Training.{reversals, changes, A, C, train, start, trained, trainedStates}
+use Rattle.training.specs.Training.{reversals, changes, A, C, train, start, intervals, trained, trainedStates}
 
 -- what a rule gives for each state and the one before it
 abbrev pub between : (ℕ → ℕ → ℕ) → ℕ → List ℕ → List ℕ
@@ -43,3 +43,15 @@ pub record TrainingBench : Type 0 where
   pub mode-2 : EitherLength 2 (0b100 ∷ 0b110 ∷ 0b101 ∷ 0b010 ∷ 0b000 ∷ 0b000 ∷ 0b111 ∷ 0b111 ∷ [])
   pub mode-3 : ThirdBench 3
   pub mode-4 : ThirdBench 4
+
+-- the count with which training of a length leaves a mode with the guard
+abbrev pub countAfterTraining : ℕ → ℕ → ℕ
+countAfterTraining m choice = trained (train m 0 choice) 0 (intervals m choice) (start m) .line .count .0
+
+-- in mode 5 it is 3, in mode 6 it is 0, of both lengths; and the points of the two modes are those of 1 and 2 but for the last 8, of which
+-- these are the line bits
+pub record GuardBench : Type 0 where
+  pub mode-5 : EitherLength 5 (0b10 ∷ 0b01 ∷ 0b10 ∷ 0b10 ∷ 0b10 ∷ 0b10 ∷ 0b00 ∷ 0b00 ∷ [])
+  pub mode-6 : EitherLength 6 (0b100 ∷ 0b110 ∷ 0b101 ∷ 0b010 ∷ 0b000 ∷ 0b000 ∷ 0b111 ∷ 0b111 ∷ [])
+  pub counts-5 : (countAfterTraining 5 0 ≡ 3) × (countAfterTraining 5 1 ≡ 3)
+  pub counts-6 : (countAfterTraining 6 0 ≡ 0) × (countAfterTraining 6 1 ≡ 0)

@@ -12,13 +12,13 @@ use Rattle.scrambler.specs.Register.{register, pushes}
 use Rattle.scrambler.specs.Scramble.{scramble}
 use Rattle.training.specs.Training.{spent}
 
--- the three line bits of a middle interval, in modes 1 and 2 alike
+-- the three line bits of a middle interval, in all modes of V.27 ter alike
 abbrev pub three : Register → List ℕ
 three h = scramble 2 0 h (spent 2)
 
 -- the register after k middle intervals
 abbrev pub threes : ℕ → Register
-threes zero = register 0b0111100 7
+threes zero = register 0b0111100 7 0
 threes (suc k) = pushes 2 (threes k) (three (threes k))
 
 -- the change of a middle interval: 1 is 180°, 0 is none

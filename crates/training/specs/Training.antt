@@ -1,11 +1,13 @@
--- Document 01, "Sender", the training of V.27 ter (000, 2.5.1) and of V.32 (001, 5.2): what each interval does.
+-- Document 01, "Sender", the training of V.27 ter (000, 2.5.1) and of V.32 (001, 5.2): what each interval does. Document 02, R-6: where the
+-- guard comes in.
 use Prim.Native.Nat.{ℕ, zero, suc, _+_, _*_, _%_}
 use mathlib.Core.Bool.{cond}
 use mathlib.Core.List.{List, [], _∷_}
 use lib.Dec.{eqb, ltb}
 use lib.ListN.{getD, replicate}
-use Rattle.line.specs.Mode.{byMode, width}
+use Rattle.line.specs.Mode.{column, byMode, width, capacity}
 use Rattle.scrambler.specs.Bits.{value}
+use Rattle.scrambler.specs.declared.Register.{Register}
 use Rattle.scrambler.specs.Register.{register, pushes}
 use Rattle.scrambler.specs.Scramble.{scramble}
 use Rattle.training.specs.declared.Coder.{Coder}
@@ -22,10 +24,16 @@ changes choice = cond (eqb choice 0) 58 1074
 abbrev pub spent : ℕ → List ℕ
 spent m = replicate 3 1
 
+-- line bits without the guard, in modes 5 and 6 with 12 of them kept: the count is zero, and so it is "at the first of the 8 points after
+-- the middle training"
+abbrev pub uncounted : Register → Register
+uncounted h = register (h .bits) (h .held .0) 0
+
+-- a middle interval: the guard's modes scramble here as modes 1 and 2
 unfoldable pub middle : ℕ → ℕ → Coder → Coder
 middle m role c =
-    let l : List ℕ = scramble m role (c .line) (spent m) in
-    coder ((c .reference + 4 * getD l 0 0) % 8) (pushes m (c .line) l)
+    let l : List ℕ = scramble (column m) role (c .line) (spent m) in
+    coder ((c .reference + 4 * getD l 0 0) % 8) (uncounted (pushes m (c .line) l))
 
 -- interval i of V.27 ter: a reversal, a change of 0° or 180°, or a point of scrambled ones
 unfoldable pub train27 : ℕ → ℕ → ℕ → ℕ → Coder → Coder
@@ -64,11 +72,12 @@ unfoldable pub train : ℕ → ℕ → ℕ → ℕ → Coder → Coder
 train m role length i c =
     byMode m (train27 m role length i c) (train27 m role length i c) (train32 m role i c) (train32 m role i c)
 
--- "from state 0", with "the register 0 1 1 1 1 0 0, oldest first"; V.32 has "a zero register", and its first interval needs no reference
+-- "from state 0", with "the register 0 1 1 1 1 0 0, oldest first" (of the 12 line bits of modes 5 and 6 the five before these are zero, and
+-- are gone before anything reads them); V.32 has "a zero register", and its first interval needs no reference
 unfoldable pub start : ℕ → Coder
 start m =
-    let v27 : Coder = coder 0 (register 0b0111100 7) in
-    let v32 : Coder = coder A (register 0 23) in
+    let v27 : Coder = coder 0 (register 0b0111100 (capacity m) 0) in
+    let v32 : Coder = coder A (register 0 (capacity m) 0) in
     byMode m v27 v27 v32 v32
 
 -- how many intervals there are

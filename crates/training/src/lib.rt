@@ -1,7 +1,7 @@
 // What the sender's training does interval by interval: document 01, "Sender".
 ghost use mathlib.Core.Path.{_≡_};
 ghost use Prim.Native.Nat.{_+_, _*_, _%_, _≤_, _<_};
-ghost use Rattle.line.specs.Mode.{width};
+ghost use Rattle.line.specs.Mode.{column, width};
 ghost use Rattle.scrambler.specs.Bits.{bits};
 ghost use Rattle.training.specs.Coder.{coding};
 ghost use Rattle.training.specs.Training.{reversals, changes, dibitState, train32, intervals};
@@ -28,7 +28,14 @@ fn code_group(mode: u8, role: u8, c: Coder, plain: u8) -> Coder
     ensures { λ r. ⌜ r ≡ coding mode role c (bits (width mode) plain) ⌝ }
 {
     let register = c.line;
-    let s = scrambler::scramble_group(mode, role, register, plain);
+    let s = scrambler::scramble_group(
+        mode,
+        role,
+        register.bits,
+        register.held.0,
+        register.count.0,
+        plain,
+    );
     let next = s.next;
     Coder {
         reference: coding::next_state(mode, c.reference, s.line),
@@ -55,10 +62,31 @@ fn change_count(choice: u32) -> usize
 pub fn interval_count(mode: u8, length: u32) -> usize
     ensures { λ r. ⌜ r ≡ intervals mode length ⌝ }
 {
-    if mode <= 2 {
+    if line::column_of(mode) <= 2 {
         reversal_count(length) + change_count(length) + 8
     } else {
         272 + (length as usize)
+    }
+}
+
+// The line bits that the middle changes of V.27 ter leave, the last 7 or, with the guard, 12 of them; V.32 starts with zeros.
+fn first_bits(mode: u8) -> u32
+    ensures { λ r. ⌜ r ≡ aheadStart mode .line .bits ⌝ }
+{
+    if line::has_guard(mode) {
+        return 3345;
+    }
+    if line::column_of(mode) <= 2 { 17 } else { 0 }
+}
+
+// The register that training starts from, with a count of zero.
+fn start_register(mode: u8) -> scrambler::Register
+    ensures { λ r. ⌜ r ≡ aheadStart mode .line ⌝ }
+{
+    scrambler::Register {
+        bits: first_bits(mode),
+        held: scrambler::BitCount(line::capacity_of(mode)),
+        count: scrambler::BitCount(0),
     }
 }
 
@@ -66,22 +94,11 @@ pub fn interval_count(mode: u8, length: u32) -> usize
 pub fn training_start(mode: u8) -> Coder
     ensures { λ r. ⌜ r ≡ aheadStart mode ⌝ }
 {
-    if mode <= 2 {
-        Coder {
-            reference: 0,
-            line: scrambler::Register {
-                bits: 17,
-                held: scrambler::BitCount(7),
-            },
-        }
+    let line = start_register(mode);
+    if line::column_of(mode) <= 2 {
+        Coder { reference: 0, line }
     } else {
-        Coder {
-            reference: 1,
-            line: scrambler::Register {
-                bits: 0,
-                held: scrambler::BitCount(23),
-            },
-        }
+        Coder { reference: 1, line }
     }
 }
 
@@ -127,7 +144,7 @@ fn dibit_state(i: usize, dibit: u8) -> u8
 
 // An interval of V.32; modes 3 and 4 have one scrambler, of which two bits are spent.
 fn train_v32(mode: u8, role: u8, i: usize, c: Coder) -> Coder
-    requires { ⌜ 2 < mode ⌝ }
+    requires { ⌜ 2 < column mode ⌝ }
     ensures { λ r. ⌜ r ≡ train32 mode role i c ⌝ }
 {
     let line = c.line;
@@ -144,7 +161,7 @@ fn train_v32(mode: u8, role: u8, i: usize, c: Coder) -> Coder
             line,
         };
     }
-    let s = scrambler::scramble_group(3, role, line, 3);
+    let s = scrambler::scramble_group(3, role, line.bits, line.held.0, line.count.0, 3);
     let next = s.next;
     Coder {
         reference: dibit_state(i, s.line),
@@ -156,7 +173,7 @@ fn train_v32(mode: u8, role: u8, i: usize, c: Coder) -> Coder
 pub fn train_interval(mode: u8, role: u8, length: u32, i: usize, c: Coder, t: &[u8; 1074]) -> Coder
     ensures { λ r. ⌜ r ≡ ahead (now (t .entry)) mode role length i c ⌝ }
 {
-    if mode <= 2 {
+    if line::column_of(mode) <= 2 {
         train_v27(mode, role, length, i, c, t)
     } else {
         train_v32(mode, role, i, c)

@@ -1,6 +1,7 @@
-//! The compiled library has no row of V.32's table 1 among its bytes.
+//! The compiled library has no row of V.32's table 1 among the bytes that are loaded
+//!
 
-use outside::image;
+use outside::{image, object};
 
 const LIBRARY: &str = concat!(
     env!("CARGO_MANIFEST_DIR"),
@@ -20,10 +21,12 @@ pub fn compare() -> bool {
     for found in &found {
         println!("image: {} at byte {}", found.what, found.at);
     }
+    let pieces = object::pieces(&library);
+    let bytes: usize = pieces.iter().map(|piece| piece.bytes.len()).sum();
     println!(
-        "image: table 1 of V.32 looked for in {} bytes, {} times found",
-        library.len(),
+        "image: table 1 of V.32 looked for in {bytes} bytes, {} times found",
         found.len()
     );
-    found.is_empty()
+    // Where nothing was looked at, nothing was shown.
+    bytes != 0 && found.is_empty()
 }

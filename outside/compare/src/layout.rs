@@ -3,7 +3,7 @@
 
 use outside::receiver::{Answer, Receiver};
 use outside::sender::Sender;
-use outside::units::{BitCount, UnitIntervals};
+use outside::units::{BitCount, GuardCount, UnitIntervals};
 
 /// The bytes of a state, of a receiver or of a sender, and of an answer.
 pub const STATE: usize = 16;
@@ -26,12 +26,13 @@ pub fn receiver_bytes(state: &Receiver) -> [u8; STATE] {
     }
     bytes[4..8].copy_from_slice(&state.register.to_le_bytes());
     bytes[8] = state.held.0 as u8;
+    bytes[9] = state.count.0;
     bytes[12..].copy_from_slice(&state.place.0.to_le_bytes());
     bytes
 }
 
 pub fn receiver_of(bytes: &[u8; STATE]) -> Receiver {
-    let reference = match (bytes[2], bytes[3], bytes[9] | bytes[10] | bytes[11]) {
+    let reference = match (bytes[2], bytes[3], bytes[10] | bytes[11]) {
         (1, reference, 0) => Some(reference),
         (0, 0, 0) => None,
         _ => Some(NO_STATE),
@@ -42,6 +43,7 @@ pub fn receiver_of(bytes: &[u8; STATE]) -> Receiver {
         reference,
         register: u32_at(bytes, 4),
         held: BitCount(u32::from(bytes[8])),
+        count: GuardCount(bytes[9]),
         place: UnitIntervals(u32_at(bytes, 12)),
     }
 }
@@ -73,16 +75,18 @@ pub fn sender_bytes(state: &Sender) -> [u8; STATE] {
     bytes[..3].copy_from_slice(&[state.mode, state.role, state.reference]);
     bytes[4..8].copy_from_slice(&state.register.to_le_bytes());
     bytes[8] = state.held.0 as u8;
+    bytes[9] = state.count.0;
     bytes
 }
 
 pub fn sender_of(bytes: &[u8; STATE]) -> Sender {
-    let clear = bytes[3] == 0 && bytes[9..].iter().all(|&byte| byte == 0);
+    let clear = bytes[3] == 0 && bytes[10..].iter().all(|&byte| byte == 0);
     Sender {
         mode: bytes[0],
         role: bytes[1],
         reference: if clear { bytes[2] } else { NO_STATE },
         register: u32_at(bytes, 4),
         held: BitCount(u32::from(bytes[8])),
+        count: GuardCount(bytes[9]),
     }
 }

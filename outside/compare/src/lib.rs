@@ -1,9 +1,11 @@
 //! The proved library, called through its C functions, and what the comparison
 //! programs share.
 
+pub mod bits;
 pub mod bulk;
 pub mod faults;
 pub mod floats;
+pub mod guard;
 pub mod image;
 pub mod layout;
 pub mod line;

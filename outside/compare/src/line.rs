@@ -3,18 +3,20 @@
 //! code between all states, and the scramblers over long runs.
 
 use outside::code;
-use outside::mode::Mode;
+use outside::patterns;
 use outside::point::{self, Decision, Point};
 use outside::receiver::{Answer, Receiver, REFERENCE_BYTE};
 use outside::rng::Rng;
+use outside::scrambler::Register;
 use outside::sender::{scrambled_group, Sender};
-use outside::units::UnitIntervals;
+use outside::units::{GuardCount, UnitIntervals};
 
+use crate::bits::{self, number_of};
 use crate::bulk::{self, Block, Lent};
 use crate::layout::{self, ANSWER};
 use crate::signal::Signal;
 use crate::tally::Tally;
-use crate::{ours, points, receiving, sending};
+use crate::{guard, ours, points, receiving, sending};
 
 const SEED: u64 = 6;
 
@@ -31,58 +33,57 @@ const STEP: usize = 64;
 const AROUND: i64 = 2;
 /// The points of a long run.
 const RUN: usize = 4_000;
-/// The random registers of a length that is too great for all of them.
+/// The greatest length of which all registers are taken.
+const LONGEST_OF_ALL: u32 = 12;
+/// The random registers of a greater length.
 const RANDOM_REGISTERS: usize = 40;
 
-fn sender(signal: Signal, reference: u8, register: u32) -> Sender {
+fn sender(signal: Signal, reference: u8, register: Register) -> Sender {
     Sender {
         mode: signal.mode.number,
         role: signal.role,
         reference,
-        register,
+        register: register.bits,
         held: signal.scrambler().full(),
+        count: register.count,
     }
 }
 
 /// A receiver with a reference and a full register.
-fn receiver(signal: Signal, reference: u8, register: u32) -> Receiver {
+fn receiver(signal: Signal, reference: u8, register: Register) -> Receiver {
     Receiver {
         reference: Some(reference),
-        register,
+        register: register.bits,
         held: signal.scrambler().full(),
+        count: register.count,
         ..signal.receiver()
     }
 }
 
 /// The data bits that a register scrambles into a group of line bits.
-fn data_of(signal: Signal, mut register: u32, group: u8) -> Vec<u8> {
-    let scrambler = signal.scrambler();
-    let line = (0..signal.mode.width).rev().map(|k| group >> k & 1);
-    line.map(|bit| {
-        let told = scrambler.descramble(register, scrambler.full(), bit);
-        register = told.register;
-        told.data.expect("settled")
-    })
-    .collect()
+fn data_of(signal: Signal, register: Register, group: u8) -> Vec<u8> {
+    let line = bits::bits_of(signal.mode, &[group]);
+    patterns::data_for(&sender(signal, signal.mode.states[0], register), &line)
 }
 
-/// All registers of a length of 7; else all zeros, all ones, each bit alone and
-/// random ones.
-fn registers(signal: Signal, rng: &mut Rng) -> Vec<u32> {
+/// All registers of a length up to 12; else all zeros, all ones, each bit alone
+/// and random ones. Each has some count where there is a guard.
+fn registers(signal: Signal, rng: &mut Rng) -> Vec<Register> {
     let length = signal.mode.register_length;
     let count = 1 << length;
-    if length == 7 {
-        return (0..count).collect();
-    }
-    let mut chosen = vec![0, count - 1];
-    chosen.extend((0..length).map(|bit| 1 << bit));
-    chosen.extend((0..RANDOM_REGISTERS).map(|_| rng.below(u64::from(count)) as u32));
-    chosen
-}
-
-/// Bits as a number, the first highest.
-fn number_of(bits: &[u8]) -> u8 {
-    bits.iter().fold(0, |number, bit| 2 * number + bit)
+    let chosen = if length <= LONGEST_OF_ALL {
+        (0..count).collect()
+    } else {
+        let mut chosen = vec![0, count - 1];
+        chosen.extend((0..length).map(|bit| 1 << bit));
+        chosen.extend((0..RANDOM_REGISTERS).map(|_| rng.below(u64::from(count)) as u32));
+        chosen
+    };
+    let with_count = |bits| Register {
+        bits,
+        count: guard::random_count(rng, signal.mode),
+    };
+    chosen.into_iter().map(with_count).collect()
 }
 
 /// A fresh receiver takes a point: the reference after it is the decided state,
@@ -138,7 +139,7 @@ fn decide_at(tally: &mut Tally, signal: Signal, re: i64, im: i64) {
 fn decide_around(tally: &mut Tally, signal: Signal) {
     let largest = i64::from(point::LARGEST_COORDINATE);
     for along in 0..=largest + AROUND {
-        for edge in points::edges(signal.mode.number, along) {
+        for edge in points::edges(signal.mode, along) {
             for quarters in 0..4 {
                 let (re, im) = points::turned(edge, quarters);
                 for off in -AROUND..=AROUND {
@@ -159,7 +160,7 @@ fn decide_around(tally: &mut Tally, signal: Signal) {
 }
 
 /// A group of line bits after a reference: the point of its state is sent.
-fn send_group(tally: &mut Tally, signal: Signal, reference: u8, register: u32, group: u8) {
+fn send_group(tally: &mut Tally, signal: Signal, reference: u8, register: Register, group: u8) {
     let start = layout::sender_bytes(&sender(signal, reference, register));
     let data = data_of(signal, register, group);
     let told = sending::run_send(tally, &start, &data, 4, 1);
@@ -176,7 +177,7 @@ fn send_group(tally: &mut Tally, signal: Signal, reference: u8, register: u32, g
 
 /// A state's point after a reference: its group of line bits, and the data bits
 /// that a sender would have made it from.
-fn receive_state(tally: &mut Tally, signal: Signal, reference: u8, register: u32, state: u8) {
+fn receive_state(tally: &mut Tally, signal: Signal, reference: u8, register: Register, state: u8) {
     let before = layout::receiver_bytes(&receiver(signal, reference, register));
     let sent = point::sent(signal.mode, state);
     let (after, answer) = receiving::run_point(tally, before, sent);
@@ -203,20 +204,9 @@ fn run_code(tally: &mut Tally, rng: &mut Rng, signal: Signal) {
     }
 }
 
-/// The bytes of data bits of groups that follow one another after a reference:
-/// the first R line bits are unsettled.
-fn marked(mode: &Mode, groups: &[u8]) -> Vec<u8> {
-    let unsettled = |k: usize| (mode.register_length).saturating_sub(mode.width * k as u32);
-    let byte = |(k, group)| {
-        let count = unsettled(k).min(mode.width);
-        group % (1 << (mode.width - count)) + 16 * count as u8
-    };
-    groups.iter().copied().enumerate().map(byte).collect()
-}
-
 /// A run of data from a register: sent, then received by a receiver with that
 /// register and by a fresh one.
-fn run_bits(tally: &mut Tally, rng: &mut Rng, signal: Signal, register: u32, data: &[u8]) {
+fn run_bits(tally: &mut Tally, rng: &mut Rng, signal: Signal, register: Register, data: &[u8]) {
     let groups = || data.chunks(signal.mode.width as usize);
     let reference = rng.pick(signal.mode.states);
     let start = sender(signal, reference, register);
@@ -247,7 +237,8 @@ fn run_bits(tally: &mut Tally, rng: &mut Rng, signal: Signal, register: u32, dat
     let same = [fresh.line[0], fresh.plain[0]] == [REFERENCE_BYTE, 0]
         && fresh.line[1..] == line[1..]
         && fresh.distance == [0; RUN]
-        && fresh.plain[1..] == marked(signal.mode, &plain[1..]);
+        && bits::unsettled(&fresh.plain[1..]) == signal.mode.register_length
+        && bits::assured(signal.mode, &line[1..], &fresh.plain[1..], &plain[1..]);
     tally.check(same, || format!("bits from {start:?}, fresh receiver"));
 }
 
@@ -256,10 +247,11 @@ fn run_scrambler(tally: &mut Tally, rng: &mut Rng, signal: Signal) {
     let count = RUN * signal.mode.width as usize;
     let ones = (1 << signal.mode.register_length) - 1;
     let random = [(); 3].map(|()| rng.below(u64::from(ones)) as u32);
-    for register in [0, 1, ones].into_iter().chain(random) {
+    for bits in [0, 1, ones].into_iter().chain(random) {
         let turns = (0..count).map(|k| (k % 2) as u8).collect();
         for data in [vec![0; count], vec![1; count], turns, rng.bits(count)] {
-            run_bits(tally, rng, signal, register, &data);
+            let count = GuardCount(0);
+            run_bits(tally, rng, signal, Register { bits, count }, &data);
         }
     }
 }

@@ -25,7 +25,7 @@ fn last_line(store: &[u8]) -> String {
 }
 
 /// Lists a store on all sides.
-fn run(tally: &mut Tally, store: &[u8], out: &mut [u8], tuned_out: &mut [u8]) {
+pub fn run(tally: &mut Tally, store: &[u8], out: &mut [u8], tuned_out: &mut [u8]) {
     out.fill(UNWRITTEN);
     let right = listing::list(store);
     let mut count = [0];

@@ -10,10 +10,10 @@ const LEVEL_EDGE: i64 = 2048;
 
 /// Points at which a mode's decision changes, so far along each of its edges; the
 /// others are their turns.
-pub fn edges(mode: u8, along: i64) -> Vec<(i64, i64)> {
+pub fn edges(mode: &Mode, along: i64) -> Vec<(i64, i64)> {
     // tan 22.5° is 0.41421356.
     let less = along * 41_421_356 / 100_000_000;
-    match mode {
+    match mode.unguarded {
         1 => vec![(along, along)],
         2 => vec![(along, less), (less, along)],
         3 => vec![(along, 2 * along)],
@@ -39,7 +39,7 @@ pub fn in_range(rng: &mut Rng, mode: &Mode) -> Point {
     match rng.below(4) {
         0 => {
             let quarters = rng.below(4);
-            let edges = edges(mode.number, rng.between(0, 8190));
+            let edges = edges(mode, rng.between(0, 8190));
             near(turned(rng.pick(&edges), quarters), rng, 2)
         }
         1 => {

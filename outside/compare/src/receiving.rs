@@ -5,11 +5,13 @@ use outside::mode::{Mode, MODES};
 use outside::point::Point;
 use outside::receiver::{self, Receiver};
 use outside::rng::Rng;
+use outside::scrambler::GUARD_LIMIT;
 use outside::units::{BitCount, UnitIntervals};
 
 use crate::layout::{self, ANSWER, STATE};
+use crate::signal::Signal;
 use crate::tally::Tally;
-use crate::{faults, ours, points};
+use crate::{faults, guard, ours, points};
 
 /// Bytes of an answer before a call, to show what a call leaves.
 const UNWRITTEN: u8 = 0xa5;
@@ -52,10 +54,14 @@ struct Call {
 pub fn sound_state(rng: &mut Rng, mode: &Mode, role: u8) -> Receiver {
     let mut state = receiver::fresh(mode.number, role).expect("a mode and its role");
     if rng.below(3) > 0 {
-        let held = rng.between(0, i64::from(mode.register_length)) as u32;
+        let any = rng.between(0, i64::from(mode.register_length)) as u32;
+        let held = rng.pick(&[any, mode.register_length]);
         state.reference = Some(rng.pick(mode.states));
         state.register = rng.below(1 << held) as u32;
         state.held = BitCount(held);
+        if held == mode.register_length {
+            state.count = guard::random_count(rng, mode);
+        }
     }
     state.place = UnitIntervals(match rng.below(4) {
         0 => u32::MAX - rng.below(40) as u32,
@@ -76,7 +82,7 @@ fn sound_event(rng: &mut Rng, mode: &Mode) -> Event {
 /// Breaks another field of a state than mode and role.
 pub fn break_field(rng: &mut Rng, mode: &Mode, state: &mut [u8; STATE]) {
     let length = mode.register_length;
-    match rng.below(6) {
+    match rng.below(8) {
         // A reference that is no state of the mode.
         0 => {
             state[2] = 1;
@@ -100,7 +106,15 @@ pub fn break_field(rng: &mut Rng, mode: &Mode, state: &mut [u8; STATE]) {
             state[2] = rng.between(2, 255) as u8;
         }
         // No layout: a byte due to be zero.
-        _ => state[9 + rng.below(3) as usize] = rng.between(1, 255) as u8,
+        5 => state[10 + rng.below(2) as usize] = rng.between(1, 255) as u8,
+        // A count above its range.
+        6 => state[9] = faults::no_count(rng, mode),
+        // A count with fewer than R line bits.
+        _ => {
+            state[8] = rng.below(u64::from(length)) as u8;
+            state[4..8].fill(0);
+            state[9] = rng.between(1, i64::from(GUARD_LIMIT.0)) as u8;
+        }
     }
 }
 
@@ -214,6 +228,34 @@ fn run_list(tally: &mut Tally, rng: &mut Rng, length: usize) {
     }
 }
 
+/// Reference, held line bits and count about their limits, in every combination:
+/// alone, and beside each other fault of a point.
+fn run_limits(tally: &mut Tally, rng: &mut Rng) {
+    const OTHERS: [Option<Fault>; 6] = [
+        None,
+        Some(Fault::Mode),
+        Some(Fault::Role),
+        Some(Fault::FewBytes),
+        Some(Fault::Event),
+        Some(Fault::Place),
+    ];
+    for Signal { mode, role } in Signal::all() {
+        for state in faults::states_about_limits(mode, role) {
+            for other in OTHERS {
+                let mut call = Call {
+                    state: layout::receiver_bytes(&state),
+                    event: Event::Point(points::in_range(rng, mode)),
+                    answer: vec![UNWRITTEN; ANSWER],
+                };
+                let mut faults = faults::of_receiver(mode, &state);
+                faults.extend(other.map(|fault| put_fault(rng, mode, &mut call, fault)));
+                let (number, ..) = run(tally, &call);
+                tally.expect_lowest(&faults, number);
+            }
+        }
+    }
+}
+
 /// Making a receiver, for every mode and role and for too few lent bytes.
 fn run_fresh(tally: &mut Tally) {
     for mode in 0..=255 {
@@ -271,11 +313,13 @@ pub fn compare(events: u64) -> bool {
     let mut rng = Rng::new(SEED);
     run_fresh(&mut tally);
     run_short_states(&mut tally);
+    run_limits(&mut tally, &mut rng);
     let others = tally.calls();
     while tally.calls() < others + events {
         let length = rng.between(1, 60) as usize;
         run_list(&mut tally, &mut rng, length);
     }
     println!("receiver: random lists, seed {SEED}");
+    tally.expect_each_two(&[1, 2, 4, 7, 8, 16]);
     tally.report("receiver", &[0, 1, 2, 4, 7, 8, 9, 16])
 }

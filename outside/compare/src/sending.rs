@@ -10,7 +10,7 @@ use outside::units::BitCount;
 
 use crate::layout::{self, STATE};
 use crate::tally::Tally;
-use crate::{faults, ours};
+use crate::{faults, guard, ours};
 
 /// A lent number before a call, to show what a call leaves.
 const UNWRITTEN: i16 = 0x5a5a;
@@ -147,13 +147,14 @@ fn run_trainings(tally: &mut Tally, rng: &mut Rng) {
 }
 
 /// A state that numbers 1, 2 and 4 let pass.
-fn sound_state(rng: &mut Rng, mode: &Mode, role: u8) -> [u8; STATE] {
+pub fn sound_state(rng: &mut Rng, mode: &Mode, role: u8) -> [u8; STATE] {
     layout::sender_bytes(&Sender {
         mode: mode.number,
         role,
         reference: rng.pick(mode.states),
         register: rng.below(1 << mode.register_length) as u32,
         held: BitCount(mode.register_length),
+        count: guard::random_count(rng, mode),
     })
 }
 
@@ -174,45 +175,103 @@ fn run_data(tally: &mut Tally, rng: &mut Rng) {
 
 /// Breaks another field of a state than mode and role.
 fn break_field(rng: &mut Rng, mode: &Mode, state: &mut [u8; STATE]) {
-    match rng.below(5) {
+    match rng.below(6) {
         0 => state[2] = faults::no_state(rng, mode),
         1 => state[8] = rng.below(u64::from(mode.register_length)) as u8,
         2 => state[8] = rng.between(i64::from(mode.register_length) + 1, 255) as u8,
         3 => state[4..8].copy_from_slice(
             &(1u32 << rng.between(i64::from(mode.register_length), 31)).to_le_bytes(),
         ),
+        4 => state[9] = faults::no_count(rng, mode),
         _ => {
-            let zero = rng.pick(&[3, 9, 10, 11, 12, 13, 14, 15]);
+            let zero = rng.pick(&[3, 10, 11, 12, 13, 14, 15]);
             state[zero] = rng.between(1, 255) as u8;
         }
     }
 }
 
-/// A sending call with one or two of the faults 1, 2, 4, 5, 6 and 7.
-fn run_send_faults(tally: &mut Tally, rng: &mut Rng) {
-    let (mode, role) = rng.mode_and_role();
-    let width = mode.width as usize;
-    let mut state = sound_state(rng, mode, role);
-    let points = 1 + rng.below(9) as usize;
-    let mut input = rng.bits(width * points);
-    let offset = rng.below(7) as usize;
-    let mut lent = offset + 2 * points;
-    let faults = faults::one_or_two(rng, &[1, 2, 4, 5, 6, 7]);
-    for &fault in &faults {
-        match fault {
-            1 => state[0] = faults::no_mode(rng),
-            2 => state[1] = faults::no_role(rng, mode),
-            4 => break_field(rng, mode, &mut state),
-            5 => {
-                let at = rng.below(input.len() as u64) as usize;
-                input[at] = rng.between(2, 255) as u8;
-            }
-            6 => input.push(0),
-            _ => lent -= 1 + rng.below(lent as u64) as usize,
+/// A sending call.
+struct Sending {
+    state: [u8; STATE],
+    input: Vec<u8>,
+    lent: usize,
+    offset: usize,
+}
+
+impl Sending {
+    /// A call of a few points that the state alone can refuse.
+    fn of(rng: &mut Rng, mode: &Mode, state: [u8; STATE]) -> Sending {
+        let points = 1 + rng.below(9) as usize;
+        let offset = rng.below(7) as usize;
+        Sending {
+            state,
+            input: rng.bits(mode.width as usize * points),
+            lent: offset + 2 * points,
+            offset,
         }
     }
-    let sent = run_send(tally, &state, &input, lent, offset);
-    tally.expect_lowest(&faults, sent.number);
+
+    /// Puts in the fault of one of the numbers 1, 2, 4, 5, 6 and 7.
+    fn put_fault(&mut self, rng: &mut Rng, mode: &Mode, fault: u8) {
+        match fault {
+            1 => self.state[0] = faults::no_mode(rng),
+            2 => self.state[1] = faults::no_role(rng, mode),
+            4 => break_field(rng, mode, &mut self.state),
+            5 => {
+                let at = rng.below(self.input.len() as u64) as usize;
+                self.input[at] = rng.between(2, 255) as u8;
+            }
+            6 => self.input.push(0),
+            _ => self.lent -= 1 + rng.below(self.lent as u64) as usize,
+        }
+    }
+
+    /// The lowest number of the faults that are in the call comes.
+    fn run(&self, tally: &mut Tally, faults: &[u8]) {
+        let sent = run_send(tally, &self.state, &self.input, self.lent, self.offset);
+        tally.expect_lowest(faults, sent.number);
+    }
+}
+
+/// A sending call with one or two of the faults.
+fn run_send_faults(tally: &mut Tally, rng: &mut Rng) {
+    let (mode, role) = rng.mode_and_role();
+    let state = sound_state(rng, mode, role);
+    let mut call = Sending::of(rng, mode, state);
+    let faults = faults::one_or_two(rng, &[1, 2, 4, 5, 6, 7]);
+    for &fault in &faults {
+        call.put_fault(rng, mode, fault);
+    }
+    call.run(tally, &faults);
+}
+
+/// Held line bits and count about their limits, in every combination: alone, and
+/// beside each other fault of a sending call.
+fn run_limits(tally: &mut Tally, rng: &mut Rng) {
+    for (mode, role) in modes_and_roles() {
+        for receiver in faults::states_about_limits(mode, role) {
+            let Some(reference) = receiver.reference else {
+                continue;
+            };
+            let state = Sender {
+                mode: mode.number,
+                role,
+                reference,
+                register: receiver.register,
+                held: receiver.held,
+                count: receiver.count,
+            };
+            for other in [0, 1, 2, 5, 6, 7] {
+                let mut call = Sending::of(rng, mode, layout::sender_bytes(&state));
+                let mut faults = faults::of_sender(mode, &state);
+                if other > 0 {
+                    call.put_fault(rng, mode, other);
+                    faults.push(other);
+                }
+                call.run(tally, &faults);
+            }
+        }
+    }
 }
 
 /// A state of too few bytes, with and without a data byte above 1: bits that are
@@ -288,6 +347,7 @@ pub fn compare(calls: u64) -> bool {
         tally.calls()
     );
     run_short_states(&mut tally, &mut rng);
+    run_limits(&mut tally, &mut rng);
     let others = tally.calls();
     while tally.calls() < others + calls {
         run_data(&mut tally, &mut rng);
@@ -295,6 +355,9 @@ pub fn compare(calls: u64) -> bool {
         if rng.below(8) == 0 {
             run_open_faults(&mut tally, &mut rng);
         }
+    }
+    for numbers in [&[1, 2, 4, 5, 6, 7][..], &[1, 2, 3, 7]] {
+        tally.expect_each_two(numbers);
     }
     tally.report("sender", &[0, 1, 2, 3, 4, 5, 6, 7])
 }

@@ -32,7 +32,7 @@ fn random_point(rng: &mut Rng) -> Point {
 
 fn random_call(rng: &mut Rng) -> Call {
     match rng.below(8) {
-        0 => Call::Make(rng.below(6) as u8, rng.below(3) as u8),
+        0 => Call::Make(rng.below(MODES.len() as u64 + 2) as u8, rng.below(3) as u8),
         1..=3 => Call::Point(random_point(rng)),
         4 | 5 => {
             let n = rng.next_u64() as u32 >> rng.below(32);

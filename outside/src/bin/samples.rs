@@ -10,10 +10,12 @@ use std::process::ExitCode;
 
 use outside::limits;
 use outside::listing;
-use outside::mode::Mode;
+use outside::mode::{Line, Mode, MODES};
+use outside::patterns::data_without_guard;
 use outside::rng::Rng;
 use outside::sender::{self, Sender};
 use outside::store::{append_lost, append_point, append_points, make, MOST_RECORDS, RECORD};
+use outside::training::Training;
 
 /// The random stores of `--many`.
 const MANY: u64 = 240;
@@ -43,6 +45,7 @@ fn write_samples(folder: &Path) -> io::Result<()> {
     write_store(folder, "mode2", &trained())?;
     write_store(folder, "mode3", &spliced(3, 1))?;
     write_store(folder, "mode4", &spliced(4, 0))?;
+    write_store(folder, "guard", &guarded())?;
     write_store(folder, "losses", &losses())?;
     write_store(folder, "empty", &made(2, 4, 1))?;
     write_store(folder, "damaged", &damaged())
@@ -71,8 +74,13 @@ fn example() -> Vec<u8> {
 
 /// A sender after its shortest training, and the numbers of the training's points.
 fn opened(mode: u8, role: u8) -> (Sender, Vec<i16>) {
-    let (length, intervals) = if mode <= 2 { (0, 80) } else { (1280, 1552) };
-    let mut out = vec![0; 2 * intervals];
+    let parameters = Mode::find(mode).unwrap();
+    let length = match parameters.line {
+        Line::V27ter => 0,
+        Line::V32 => 1280,
+    };
+    let training = Training::of(parameters, length).unwrap();
+    let mut out = vec![0; 2 * training.intervals()];
     let state = sender::open(mode, role, length, &mut out, 0).unwrap();
     (state, out)
 }
@@ -80,8 +88,13 @@ fn opened(mode: u8, role: u8) -> (Sender, Vec<i16>) {
 /// Data points of random bits, re and im in turn, and the sender after them.
 fn sent(state: Sender, rng: &mut Rng, points: usize) -> (Sender, Vec<i16>) {
     let width = Mode::find(state.mode).unwrap().width as usize;
-    let mut out = vec![0; 2 * points];
-    let next = sender::send(state, &rng.bits(points * width), &mut out, 0).unwrap();
+    sent_data(state, &rng.bits(points * width))
+}
+
+fn sent_data(state: Sender, data: &[u8]) -> (Sender, Vec<i16>) {
+    let width = Mode::find(state.mode).unwrap().width as usize;
+    let mut out = vec![0; 2 * data.len() / width];
+    let next = sender::send(state, data, &mut out, 0).unwrap();
     (next, out)
 }
 
@@ -114,6 +127,30 @@ fn trained() -> Vec<u8> {
     append_points(&mut store, &training[2 * 42..]).unwrap();
     append_point(&mut store, 0, 0).unwrap();
     let (_, points) = sent(state, &mut rng, 12);
+    append_points(&mut store, &points).unwrap();
+    store
+}
+
+/// Mode 6 with data for which the line would repeat eight bits, again and again,
+/// if there were no guard. They stand between other data, and a loss among them.
+fn guarded() -> Vec<u8> {
+    const PATTERN: [u8; 8] = [1, 0, 0, 1, 1, 1, 0, 0];
+    let mut rng = Rng::new(6);
+    let mut store = made(24, 6, 0);
+    let (state, _) = opened(6, 0);
+    let (mut state, points) = sent(state, &mut rng, 14);
+    append_points(&mut store, &points).unwrap();
+    for repeat in 0..6 {
+        if repeat == 3 {
+            append_lost(&mut store, 9).unwrap();
+        }
+        let line = PATTERN.repeat(6);
+        let data = data_without_guard(&state, &line);
+        let (next, points) = sent_data(state, &data);
+        append_points(&mut store, &points).unwrap();
+        state = next;
+    }
+    let (_, points) = sent(state, &mut rng, 14);
     append_points(&mut store, &points).unwrap();
     store
 }
@@ -154,14 +191,14 @@ fn write_many(folder: &Path) -> io::Result<()> {
 }
 
 fn random(rng: &mut Rng, seed: u64) -> Vec<u8> {
-    let mode = 1 + (seed % 4) as u8;
-    let role = if mode <= 2 { 0 } else { rng.below(2) as u8 };
+    let mode = &MODES[seed as usize % MODES.len()];
+    let role = rng.below(mode.near_taps.len() as u64) as u8;
     let records = if seed.is_multiple_of(8) {
         MOST_RECORDS
     } else {
         2 + rng.below(60) as usize
     };
-    let mut store = made(records, mode, role);
+    let mut store = made(records, mode.number, role);
     while append_some(&mut store, rng) {}
     if seed % 5 == 4 {
         let at = rng.below(store.len().min(8 * RECORD) as u64) as usize;

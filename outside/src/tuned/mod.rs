@@ -3,6 +3,7 @@
 
 mod append;
 mod chain;
+mod guard;
 mod levels;
 mod list;
 mod passes;

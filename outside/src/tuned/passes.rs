@@ -1,10 +1,12 @@
 //! Blocks of points, received in passes over a stretch of them: symbols, line
 //! bits, data bits, distances. The descrambler has no feedback, so no pass waits
 //! for the point before, and the compiler has each take several points at once;
-//! origin points and unsettled bits are put in afterwards.
+//! origin points, unsettled bits and what the guard inverts are put in afterwards.
 
+use super::guard::Guard;
 use super::symbol::{self, ORIGIN};
 use crate::receiver::{Receiver, GAP_BYTE, REFERENCE_BYTE};
+use crate::scrambler::GUARD_TAPS;
 use crate::units::{BitCount, UnitIntervals};
 
 /// The points that a pass goes over.
@@ -36,6 +38,7 @@ pub fn receive<const MODE: u8, const NEAR: u32>(
         reference: passes.reference(),
         register: passes.register(),
         held: BitCount(passes.held as u32),
+        count: passes.guard.count(),
         place: UnitIntervals(state.place.0 + intervals),
         ..state
     }
@@ -50,11 +53,14 @@ struct Passes<const MODE: u8, const NEAR: u32> {
     has_reference: bool,
     /// Line bits since the last gap, at most R.
     held: usize,
+    guard: Guard,
 }
 
 impl<const MODE: u8, const NEAR: u32> Passes<MODE, NEAR> {
     const W: usize = symbol::mode(MODE).width as usize;
     const R: usize = symbol::mode(MODE).register_length as usize;
+    const FAR: usize = symbol::mode(MODE).far_tap as usize;
+    const GUARD: bool = symbol::mode(MODE).guard;
     const ALL: u8 = (1 << Self::W) - 1;
 
     fn of(state: &Receiver) -> Self {
@@ -63,6 +69,7 @@ impl<const MODE: u8, const NEAR: u32> Passes<MODE, NEAR> {
             groups: [0; BACK + STRETCH],
             has_reference: state.reference.is_some(),
             held: state.held.0 as usize,
+            guard: Guard::of(state.count),
         };
         passes.symbols[0] = symbol::of_state::<MODE>(state.reference.unwrap_or(0));
         for (back, group) in passes.groups[..BACK].iter_mut().rev().enumerate() {
@@ -84,31 +91,71 @@ impl<const MODE: u8, const NEAR: u32> Passes<MODE, NEAR> {
         if marks >= ORIGIN || !self.has_reference || self.held < Self::R {
             self.mark(line, plain);
         }
+        if Self::GUARD {
+            self.invert(line, plain);
+        }
         self.symbols[0] = self.symbols[count];
         self.groups.copy_within(count..count + BACK, 0);
     }
 
-    /// Data bits of the stretch: each line bit and those a and R back.
+    /// The groups that stand so many before those of the stretch.
+    #[inline(always)]
+    fn back(&self, groups: usize, count: usize) -> &[u8] {
+        &self.groups[BACK - groups..BACK - groups + count]
+    }
+
+    /// For each group of the stretch the line bits `tap` back, all of them in its
+    /// lowest bits.
+    #[inline(always)]
+    fn tapped(&self, tap: usize, count: usize) -> impl Iterator<Item = u8> + '_ {
+        let later = self.back(tap / Self::W, count).iter();
+        let earlier = self.back(tap.div_ceil(Self::W), count);
+        later.zip(earlier).map(move |pair| Self::joined(pair, tap))
+    }
+
+    /// Data bits of the stretch: each line bit and those at the two taps.
     fn descramble(&self, plain: &mut [u8]) {
         let count = plain.len();
-        let back = |groups: usize| &self.groups[BACK - groups..BACK - groups + count];
-        let near = back(NEAR as usize / Self::W)
-            .iter()
-            .zip(back((NEAR as usize).div_ceil(Self::W)));
-        let far = back(Self::R / Self::W)
-            .iter()
-            .zip(back(Self::R.div_ceil(Self::W)));
-        for (((plain, line), near), far) in plain.iter_mut().zip(back(0)).zip(near).zip(far) {
-            let near = Self::tapped(near, NEAR as usize);
-            let far = Self::tapped(far, Self::R);
+        let near = self.tapped(NEAR as usize, count);
+        let taps = near.zip(self.tapped(Self::FAR, count));
+        for ((plain, line), (near, far)) in plain.iter_mut().zip(self.back(0, count)).zip(taps) {
             *plain = (line ^ near ^ far) & Self::ALL;
+        }
+    }
+
+    /// The line bits of the stretch that differ from all three that the guard
+    /// compares them with.
+    fn differing(&self, count: usize) -> [u8; STRETCH] {
+        let mut differing = [0; STRETCH];
+        let [one, two, three] = GUARD_TAPS.map(|tap| self.tapped(tap as usize, count));
+        let taps = one.zip(two).zip(three);
+        let groups = self.back(0, count).iter().zip(taps);
+        for (differing, (line, ((one, two), three))) in differing.iter_mut().zip(groups) {
+            *differing = (line ^ one) & (line ^ two) & (line ^ three) & Self::ALL;
+        }
+        differing
+    }
+
+    /// Puts in what the guard inverts, from the bytes as they are marked: a group
+    /// after the other, since each count follows from the one before.
+    fn invert(&mut self, line: &[u8], plain: &mut [u8]) {
+        let differing = self.differing(line.len());
+        for ((line, plain), differing) in line.iter().zip(plain).zip(differing) {
+            if *line >= REFERENCE_BYTE {
+                self.guard.clear();
+                continue;
+            }
+            let unsettled = u32::from(*plain >> 4);
+            let settled = Self::ALL >> unsettled;
+            let bits = Self::W as u32 - unsettled;
+            *plain ^= self.guard.take(u32::from(differing & settled), bits) as u8;
         }
     }
 
     /// The line bits `tap` back from a group's: the end of the earlier group
     /// and the start of the later one, which are one group if w divides `tap`.
     #[inline(always)]
-    fn tapped((later, earlier): (&u8, &u8), tap: usize) -> u8 {
+    fn joined((later, earlier): (&u8, &u8), tap: usize) -> u8 {
         match tap % Self::W {
             0 => *later,
             rest => earlier << (Self::W - rest) | later >> rest,

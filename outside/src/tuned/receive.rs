@@ -76,8 +76,10 @@ pub(super) fn accepted<const PASSES: bool>(
         (2, _) => receive::<PASSES, 2, 6>(state, points, line, plain, distance),
         (3, 0) => receive::<PASSES, 3, 18>(state, points, line, plain, distance),
         (3, _) => receive::<PASSES, 3, 5>(state, points, line, plain, distance),
-        (_, 0) => receive::<PASSES, 4, 18>(state, points, line, plain, distance),
-        (_, _) => receive::<PASSES, 4, 5>(state, points, line, plain, distance),
+        (4, 0) => receive::<PASSES, 4, 18>(state, points, line, plain, distance),
+        (4, _) => receive::<PASSES, 4, 5>(state, points, line, plain, distance),
+        (5, _) => receive::<PASSES, 5, 6>(state, points, line, plain, distance),
+        (_, _) => receive::<PASSES, 6, 6>(state, points, line, plain, distance),
     }
 }
 

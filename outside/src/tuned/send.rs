@@ -1,6 +1,7 @@
 //! Data bits to points: as many line bits in one step as the nearer tap is
 //! back, since none of these depends on another of them.
 
+use super::guard::{self, Guard};
 use super::symbol;
 use crate::refusal::{need, Refusal};
 use crate::sender::{self, Sender};
@@ -26,8 +27,10 @@ pub fn send(
         (2, _) => Steps::<2, 6>::of(&state).send(state, input, lent),
         (3, 0) => Steps::<3, 18>::of(&state).send(state, input, lent),
         (3, _) => Steps::<3, 5>::of(&state).send(state, input, lent),
-        (_, 0) => Steps::<4, 18>::of(&state).send(state, input, lent),
-        (_, _) => Steps::<4, 5>::of(&state).send(state, input, lent),
+        (4, 0) => Steps::<4, 18>::of(&state).send(state, input, lent),
+        (4, _) => Steps::<4, 5>::of(&state).send(state, input, lent),
+        (5, _) => Steps::<5, 6>::of(&state).send(state, input, lent),
+        (_, _) => Steps::<6, 6>::of(&state).send(state, input, lent),
     })
 }
 
@@ -35,6 +38,7 @@ pub fn send(
 struct Steps<const MODE: u8, const NEAR: usize> {
     /// The last line bits, R of them at least, newest lowest.
     register: u32,
+    guard: Guard,
     /// The turns of the last symbol.
     turns: u8,
 }
@@ -42,6 +46,8 @@ struct Steps<const MODE: u8, const NEAR: usize> {
 impl<const MODE: u8, const NEAR: usize> Steps<MODE, NEAR> {
     const W: usize = symbol::mode(MODE).width as usize;
     const R: usize = symbol::mode(MODE).register_length as usize;
+    const FAR: usize = symbol::mode(MODE).far_tap as usize;
+    const GUARD: bool = symbol::mode(MODE).guard;
     /// The line bits of a step: whole groups.
     const STEP: usize = NEAR - NEAR % Self::W;
     /// The turns that a group stands for; in mode 4 its Q1 Q2.
@@ -51,6 +57,7 @@ impl<const MODE: u8, const NEAR: usize> Steps<MODE, NEAR> {
     fn of(state: &Sender) -> Self {
         Steps {
             register: state.register,
+            guard: Guard::of(state.count),
             turns: symbol::of_state::<MODE>(state.reference),
         }
     }
@@ -68,6 +75,7 @@ impl<const MODE: u8, const NEAR: usize> Steps<MODE, NEAR> {
         Sender {
             reference: symbol::state::<MODE>(symbol),
             register: self.register & ((1 << Self::R) - 1),
+            count: self.guard.count(),
             ..state
         }
     }
@@ -77,8 +85,11 @@ impl<const MODE: u8, const NEAR: usize> Steps<MODE, NEAR> {
     fn step(&mut self, bits: &[u8], numbers: &mut [i16]) -> u8 {
         let count = bits.len();
         let data = bits.iter().fold(0, |data, &bit| data << 1 | u32::from(bit));
-        let tapped = self.register >> (NEAR - count) ^ self.register >> (Self::R - count);
-        let line = (data ^ tapped) & ((1 << count) - 1);
+        let tapped = self.register >> (NEAR - count) ^ self.register >> (Self::FAR - count);
+        let mut line = (data ^ tapped) & ((1 << count) - 1);
+        if Self::GUARD {
+            line ^= self.inverted(line, count as u32);
+        }
         self.register = self.register << count | line;
         let mut symbol = 0;
         for (k, point) in numbers.chunks_exact_mut(2).enumerate() {
@@ -87,6 +98,14 @@ impl<const MODE: u8, const NEAR: usize> Steps<MODE, NEAR> {
             point.copy_from_slice(&Self::SENT[usize::from(symbol)]);
         }
         symbol
+    }
+
+    /// The bits of a step that the guard inverts. It compares with line bits before
+    /// the step alone, and an inverted one is not compared.
+    #[inline(always)]
+    fn inverted(&mut self, line: u32, count: u32) -> u32 {
+        let differing = guard::differing(self.register << count | line);
+        self.guard.take(differing & ((1 << count) - 1), count)
     }
 
     /// The symbol of a group, whose lowest bits alone count.
@@ -98,7 +117,7 @@ impl<const MODE: u8, const NEAR: usize> Steps<MODE, NEAR> {
             (group & ((1 << Self::W) - 1), 0)
         };
         let turns = self.turns.wrapping_add(Self::TURNS[usize::from(dibits)]);
-        self.turns = turns & if MODE == 2 { 7 } else { 3 };
+        self.turns = turns & symbol::turns_mask::<MODE>();
         self.turns | levels << 2
     }
 }
@@ -107,7 +126,7 @@ impl<const MODE: u8, const NEAR: usize> Steps<MODE, NEAR> {
 const fn turns_of_groups<const MODE: u8>() -> [u8; 8] {
     let mut found = [0; 8];
     let mut turns = 0;
-    while turns < if MODE == 2 { 8 } else { 4 } {
+    while turns <= symbol::turns_mask::<MODE>() {
         let group = symbol::group::<MODE>(0, turns);
         found[(if MODE == 4 { group >> 2 } else { group }) as usize] = turns;
         turns += 1;

@@ -4,12 +4,17 @@
 //! in mode 2 by 45°; in mode 4 its bits 2 and 3 are Q4 and Q3. Nothing here
 //! branches on a point, so that a loop over points takes several at once.
 
-use crate::mode::{Mode, A, B, C, D, MODES};
+use crate::mode::{Line, Mode, A, B, C, D, MODES};
 use crate::point::{Point, V27TER_POINTS, V32_POINTS};
 
 /// The parameters of a mode.
 pub const fn mode(number: u8) -> &'static Mode {
     &MODES[number as usize - 1]
+}
+
+/// The mode without a guard whose symbols a mode has.
+const fn unguarded(number: u8) -> u8 {
+    mode(number).unguarded
 }
 
 /// The bit that marks a point at the origin, which has no symbol.
@@ -24,7 +29,7 @@ const LEVEL_3: u16 = 2048;
 #[inline(always)]
 pub fn decide<const MODE: u8>(re: i16, im: i16) -> u8 {
     let origin = u16::from((re | im) == 0) << 7;
-    let symbol = match MODE {
+    let symbol = match unguarded(MODE) {
         1 => quarter(re.saturating_add(im), im.saturating_sub(re)),
         2 => eighth(re, im),
         // With p and q of document 01, these are half of p + q and of q − p.
@@ -81,7 +86,7 @@ pub fn apart<const MODE: u8>(re: i16, im: i16, symbol: u8) -> (i16, i16) {
     let (a, b) = (re.wrapping_abs(), im.wrapping_abs());
     let (greater, lesser) = (a.max(b), a.min(b));
     let (odd, half) = (mask(symbol & 1 != 0), mask(symbol & 2 != 0));
-    let (x, y) = match MODE {
+    let (x, y) = match unguarded(MODE) {
         1 => (greater - 4096, lesser),
         // Odd states are sent at (2896, 2896), up to signs.
         2 => (greater - 4096 + (odd & 1200), lesser - (odd & 2896)),
@@ -114,13 +119,18 @@ pub fn squared((x, y): (i16, i16)) -> u32 {
     (i32::from(x) * i32::from(x) + i32::from(y) * i32::from(y)) as u32
 }
 
+/// The bits of a symbol that are its turns, of which a full turn has 4 or 8.
+pub const fn turns_mask<const MODE: u8>() -> u8 {
+    (360 / mode(MODE).step - 1) as u8
+}
+
 /// The line bits of a symbol after another. Both differential codes count the
 /// turns between them in Gray code; all but mode 1's invert the last bit.
 #[inline(always)]
 pub const fn group<const MODE: u8>(before: u8, symbol: u8) -> u8 {
-    let turns = symbol.wrapping_sub(before) & if MODE == 2 { 7 } else { 3 };
+    let turns = symbol.wrapping_sub(before) & turns_mask::<MODE>();
     let gray = turns ^ (turns >> 1);
-    match MODE {
+    match unguarded(MODE) {
         1 => gray,
         2 | 3 => gray ^ 1,
         _ => 4 * (gray ^ 1) + (symbol >> 2 & 3),
@@ -129,7 +139,7 @@ pub const fn group<const MODE: u8>(before: u8, symbol: u8) -> u8 {
 
 /// The state that a symbol stands for.
 pub const fn state<const MODE: u8>(symbol: u8) -> u8 {
-    match MODE {
+    match unguarded(MODE) {
         1 => 2 * symbol,
         2 => symbol,
         3 => [C, D, A, B][(symbol % 4) as usize],
@@ -140,16 +150,15 @@ pub const fn state<const MODE: u8>(symbol: u8) -> u8 {
 /// The point at which a symbol is sent.
 pub const fn sent<const MODE: u8>(symbol: u8) -> Point {
     let state = state::<MODE>(symbol) as usize;
-    if MODE <= 2 {
-        V27TER_POINTS[state % 8]
-    } else {
-        V32_POINTS[state]
+    match mode(MODE).line {
+        Line::V27ter => V27TER_POINTS[state % 8],
+        Line::V32 => V32_POINTS[state],
     }
 }
 
 /// The symbol of a state of the mode.
 pub fn of_state<const MODE: u8>(state: u8) -> u8 {
-    match MODE {
+    match unguarded(MODE) {
         1 => state / 2,
         2 => state,
         // The quadrants of C, D, A and B are I to IV too.

@@ -11,11 +11,11 @@ use Rattle.bulk.proofs.hear_settled.Statement.{statement}
 use Rattle.bulk.proofs.hear_settled.Tie as tie
 
 abbrev Inv-loop : tie.InvT-loop
-Inv-loop ring rows s reference points line₀ plain₀ distance₀ from n x₀ bits₀ constellation k₀ line plain distance x bits k =
-    Hearing s (parts line₀ plain₀ distance₀) points from (settledAt s x bits (k - from)) (parts line plain distance) k
+Inv-loop ring rows s reference points line₀ plain₀ distance₀ from n x₀ bits₀ count₀ constellation k₀ line plain distance x bits count k =
+    Hearing s (parts line₀ plain₀ distance₀) points from (settledAt s x bits count (k - from)) (parts line plain distance) k
 
 abbrev μ-loop : tie.MeasureT-loop
-μ-loop ring rows s reference points line₀ plain₀ distance₀ from n x₀ bits₀ constellation k₀ line plain distance x bits k =
+μ-loop ring rows s reference points line₀ plain₀ distance₀ from n x₀ bits₀ count₀ constellation k₀ line plain distance x bits count k =
     n - k
 
 constellation-requires : tie.Need-constellation-requires Inv-loop μ-loop
@@ -72,8 +72,8 @@ state-at-requires c κs = search needs
 group-by-requires : tie.Need-group-by-requires Inv-loop μ-loop
 group-by-requires c κs = search needs
 
-descramble-next-requires : tie.Need-descramble-next-requires Inv-loop μ-loop
-descramble-next-requires c κs = search needs
+next-data-requires : tie.Need-next-data-requires Inv-loop μ-loop
+next-data-requires c κs = search needs
 
 cast-state : tie.Need-cast-state Inv-loop μ-loop
 cast-state c = search needs
@@ -112,8 +112,8 @@ loop-again c =
     let l = c .before .before .before .before .before .before .before .before .before .before .loop in
     let re = toZ-ofZ (sfits-of {w = w16} (c .before .before .before .before .before .before .before .before .re .given)) in
     let im = toZ-ofZ (sfits-of {w = w16} (c .before .before .before .before .before .before .before .im .given)) in
-    settled-again (a .s) _ _ _ _ (a .from) (l .k) (l .x) (l .bits) (l .inv) (c .before .before .before .before .before .before .before .before .before .loop-test .taken) _ _ re im _ _ _ _ _ _ _
-    (s .pre .0) (s .pre .1) (c .before .before .before .before .before .before .is-origin .ensures) (c .before .before .before .before .before .if1 .left) (c .before .before .before .before .state-at .ensures) (c .before .before .before .group-by .ensures) (c .before .before .descramble-next .ensures)
+    settled-again (a .s) _ _ _ _ (a .from) (l .k) (l .x) (l .bits) (l .count) (l .inv) (c .before .before .before .before .before .before .before .before .before .loop-test .taken) _ _ re im _ _ _ _ _ _ _
+    (s .pre .0) (s .pre .1) (c .before .before .before .before .before .before .is-origin .ensures) (c .before .before .before .before .before .if1 .left) (c .before .before .before .before .state-at .ensures) (c .before .before .before .group-by .ensures) (c .before .before .next-data .ensures)
     (from-constellation (a .s .mode) _ _ _ _ _ (sfits-of {w = w16} (c .before .before .before .before .before .before .before .before .re .given)) (sfits-of {w = w16} (c .before .before .before .before .before .before .before .im .given)) (c .before .before .before .before .before .before .before .before .before .before .before .constellation .ensures) (rw (re, im) at (c .squared-distance .ensures))) refl
 
 sub-settled-2 : tie.Need-sub-settled-2 Inv-loop μ-loop
@@ -158,7 +158,7 @@ hear-settled-spec =
     returns
     state-at-requires
     group-by-requires
-    descramble-next-requires
+    next-data-requires
     cast-state
     mul-sent
     array-copy-out-sent

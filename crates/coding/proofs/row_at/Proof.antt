@@ -1,4 +1,5 @@
-use Rattle.line.proofs.Tests.{tests}
+use mathlib.Core.Path.{_∙_}
+use Rattle.line.proofs.ByMode.{column-low, mode-1, mode-2}
 use Rattle.coding.specs.Rows.{rowAt}
 use Rattle.coding.proofs.RowLaws.{in-unit-most, row-in-unit}
 use borrow.Author.Needs.{needs}
@@ -40,14 +41,18 @@ mul-result c = let h = in-unit-most _ _ _ (c .before .row-unit .ensures) (c .row
 
 returns : tie.Need-returns
 unfolding rowAt
-returns c = search tests
+returns c =
+    let s = c .before .before in
+    c .row4 .ensures .0 ∙ mode-1 _ _ _ _ (s .args .c) _ (column-low _ (s .pre)) (c .before .if1 .taken)
 
 returns-2 : tie.Need-returns-2
 unfolding rowAt
-returns-2 c = search tests
+returns-2 c =
+    let s = c .before .before .before in
+    c .row8 .ensures .0 ∙ mode-2 _ _ _ _ (s .args .c) _ (column-low _ (s .pre)) (c .before .if2 .taken)
 
 returns-3 : tie.Need-returns-3
-returns-3 c = search row-in-unit
+returns-3 c = search (column-low, row-in-unit)
 
 pub row-at-spec : {M : Type 1} → statement M
 row-at-spec =

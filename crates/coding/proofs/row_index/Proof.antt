@@ -1,6 +1,6 @@
 use native.Mathlib.Omega.{arith}
 use Rattle.line.specs.Mode.{quadrant}
-use Rattle.line.proofs.Tests.{tests}
+use Rattle.line.proofs.ByMode.{column-low, mode-short, mode-long}
 use Rattle.coding.specs.Code.{eighths}
 use Rattle.coding.specs.Rows.{rowIndex}
 use borrow.Author.Needs.{needs}
@@ -27,11 +27,11 @@ cast-result-2 c = search needs
 
 returns : tie.Need-returns
 unfolding rowIndex eighths quadrant
-returns c = (search tests, omega arith)
+returns c = (search (column-low, mode-short), omega arith)
 
 returns-2 : tie.Need-returns-2
 unfolding rowIndex eighths quadrant
-returns-2 c = (search tests, omega arith)
+returns-2 c = (search (column-low, mode-long), omega arith)
 
 pub row-index-spec : {M : Type 1} → statement M
 row-index-spec =

@@ -1,54 +1,17 @@
+use Rattle.line.proofs.ByMode.{column-most}
+use Rattle.coding.proofs.RowLaws.{rows-column}
 use borrow.Author.Needs.{needs}
-use Prim.Native.Nat.{_-_, _≤_}
-use native.Mathlib.Omega.{arith}
-use Rattle.coding.specs.Rows.{rowAt}
-use Rattle.line.proofs.TableLaws.{FilledTo, filled-first, filled-next, filled-all}
 use Rattle.coding.proofs.rows_of.Statement.{statement}
 use Rattle.coding.proofs.rows_of.Tie as tie
 
-abbrev Inv-loop : tie.InvT-loop
-Inv-loop mode rows₀ i₀ rows i = (i ≤ 16) × FilledTo (rowAt mode) 0 i rows
+column-of-requires : tie.Need-column-of-requires
+column-of-requires c κs = search needs
 
-abbrev μ-loop : tie.MeasureT-loop
-μ-loop mode rows₀ i₀ rows i = 16 - i
+rows-in-requires : tie.Need-rows-in-requires
+rows-in-requires c κs = rw (c .column-of .ensures) (column-most (c .before .args .mode))
 
-row-at-requires : tie.Need-row-at-requires Inv-loop μ-loop
-row-at-requires c κs = search needs
-
-loop-holds : tie.Need-loop-holds Inv-loop μ-loop
-loop-holds c = (omega arith, filled-first (rowAt (c .before .args .mode)) 0 _ (c .row-at .ensures))
-
-row-at-requires-2 : tie.Need-row-at-requires-2 Inv-loop μ-loop
-row-at-requires-2 c κs = search needs
-
-array-write-rows : tie.Need-array-write-rows Inv-loop μ-loop
-array-write-rows c = search needs
-
-add-i : tie.Need-add-i Inv-loop μ-loop
-add-i c = search needs
-
-loop-less : tie.Need-loop-less Inv-loop μ-loop
-loop-less c = search needs
-
-loop-again : tie.Need-loop-again Inv-loop μ-loop
-loop-again c =
-    let l = c .before .before .loop in
-    (omega arith, filled-next (rowAt (c .before .before .before .before .args .mode)) 0 (l .i) (c .row-at2 .result) (l .rows) (c .before .loop-test .taken) (l .inv .1) (c .row-at2 .ensures))
-
-returns : tie.Need-returns Inv-loop μ-loop
-returns c = let l = c .before .loop in filled-all _ 0 (l .i) (l .rows) (c .loop-test .left) (l .inv .1)
+returns : tie.Need-returns
+returns c = rows-column _ _ (c .before .column-of .ensures) _ (c .rows-in .ensures)
 
 pub rows-of-spec : {M : Type 1} → statement M
-rows-of-spec =
-    tie.close
-    (tie.spec
-    Inv-loop
-    μ-loop
-    row-at-requires
-    loop-holds
-    row-at-requires-2
-    array-write-rows
-    add-i
-    loop-less
-    loop-again
-    returns)
+rows-of-spec = tie.close (tie.spec column-of-requires rows-in-requires returns)

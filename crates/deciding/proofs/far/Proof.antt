@@ -1,6 +1,6 @@
 use Rattle.deciding.specs.Sizes.{farOf}
 use Rattle.deciding.proofs.Bound.{square, double-square}
-use Rattle.line.proofs.Tests.{tests}
+use Rattle.line.proofs.ByMode.{column-low, mode-1, mode-2, mode-3, mode-4}
 use borrow.Author.Needs.{needs}
 use Rattle.deciding.proofs.far.Statement.{statement}
 use Rattle.deciding.proofs.far.Tie as tie
@@ -25,19 +25,19 @@ mul-result-4 c = search needs
 
 returns : tie.Need-returns
 unfolding farOf
-returns c = search tests
+returns c = search (column-low, mode-1)
 
 returns-2 : tie.Need-returns-2
 unfolding farOf
-returns-2 c = search tests
+returns-2 c = search (column-low, mode-2)
 
 returns-3 : tie.Need-returns-3
 unfolding farOf
-returns-3 c = search tests
+returns-3 c = search (column-low, mode-3)
 
 returns-4 : tie.Need-returns-4
 unfolding farOf
-returns-4 c = search tests
+returns-4 c = search (column-low, mode-4)
 
 pub far-spec : {M : Type 1} → statement M
 far-spec =

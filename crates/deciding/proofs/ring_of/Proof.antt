@@ -1,23 +1,18 @@
-use Rattle.deciding.specs.Sizes.{ringOf}
-use Rattle.line.proofs.Tests.{tests}
+use mathlib.Core.Path.{_∙_}
+use Rattle.line.proofs.ByMode.{column-most}
+use Rattle.deciding.proofs.RingLaws.{ring-column}
+use borrow.Author.Needs.{needs}
 use Rattle.deciding.proofs.ring_of.Statement.{statement}
 use Rattle.deciding.proofs.ring_of.Tie as tie
 
+column-of-requires : tie.Need-column-of-requires
+column-of-requires c κs = search needs
+
+ring-in-requires : tie.Need-ring-in-requires
+ring-in-requires c κs = rw (c .column-of .ensures) (column-most (c .before .args .mode))
+
 returns : tie.Need-returns
-unfolding ringOf
-returns c = search tests
-
-returns-2 : tie.Need-returns-2
-unfolding ringOf
-returns-2 c = search tests
-
-returns-3 : tie.Need-returns-3
-unfolding ringOf
-returns-3 c = search tests
-
-returns-4 : tie.Need-returns-4
-unfolding ringOf
-returns-4 c = search tests
+returns c = c .ring-in .ensures ∙ ring-column _ _ (c .before .column-of .ensures)
 
 pub ring-of-spec : {M : Type 1} → statement M
-ring-of-spec = tie.close (tie.spec returns returns-2 returns-3 returns-4)
+ring-of-spec = tie.close (tie.spec column-of-requires ring-in-requires returns)

@@ -18,6 +18,9 @@ word-at-requires c κs = search needs
 shared-slice-read-t9 : tie.Need-shared-slice-read-t9
 shared-slice-read-t9 c = search needs
 
+shared-slice-read-t12 : tie.Need-shared-slice-read-t12
+shared-slice-read-t12 c = search needs
+
 word-at-requires-2 : tie.Need-word-at-requires-2
 word-at-requires-2 c κs = search needs
 
@@ -34,5 +37,6 @@ load-receiver-spec =
     shared-slice-read-t6
     word-at-requires
     shared-slice-read-t9
+    shared-slice-read-t12
     word-at-requires-2
     returns)

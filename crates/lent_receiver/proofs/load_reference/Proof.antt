@@ -16,17 +16,14 @@ shared-slice-read-clear c = search needs
 shared-slice-read-clear-2 : tie.Need-shared-slice-read-clear-2
 shared-slice-read-clear-2 c = search needs
 
-shared-slice-read-clear-3 : tie.Need-shared-slice-read-clear-3
-shared-slice-read-clear-3 c = search needs
-
 returns : tie.Need-returns
-returns c = read-state _ _ _ _ _ _ refl refl refl refl refl (c .if1 .taken)
+returns c = read-state _ _ _ _ _ refl refl refl refl (c .if1 .taken)
 
 returns-2 : tie.Need-returns-2
-returns-2 c = read-none _ _ _ _ _ _ refl refl refl refl refl (c .before .if1 .left) (c .if2 .taken)
+returns-2 c = read-none _ _ _ _ _ refl refl refl refl (c .before .if1 .left) (c .if2 .taken)
 
 returns-3 : tie.Need-returns-3
-returns-3 c = read-neither _ _ _ _ _ _ refl refl refl refl refl (c .before .if1 .left) (c .if2 .left)
+returns-3 c = read-neither _ _ _ _ _ refl refl refl refl (c .before .if1 .left) (c .if2 .left)
 
 pub load-reference-spec : {M : Type 1} → statement M
 load-reference-spec =
@@ -36,7 +33,6 @@ load-reference-spec =
     shared-slice-read-state
     shared-slice-read-clear
     shared-slice-read-clear-2
-    shared-slice-read-clear-3
     returns
     returns-2
     returns-3)

@@ -21,6 +21,9 @@ cast-t6 c = search needs
 byte-at-requires-3 : tie.Need-byte-at-requires-3
 byte-at-requires-3 c κs = search needs
 
+byte-at-requires-4 : tie.Need-byte-at-requires-4
+byte-at-requires-4 c κs = search needs
+
 returns : tie.Need-returns
 unfolding senderIn
 returns c = cc
@@ -35,4 +38,5 @@ load-sender-spec =
     get32-requires
     cast-t6
     byte-at-requires-3
+    byte-at-requires-4
     returns)

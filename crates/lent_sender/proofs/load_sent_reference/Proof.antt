@@ -18,9 +18,6 @@ byte-at-requires-4 c κs = search needs
 get32-requires : tie.Need-get32-requires
 get32-requires c κs = search needs
 
-byte-at-requires-5 : tie.Need-byte-at-requires-5
-byte-at-requires-5 c κs = search needs
-
 returns : tie.Need-returns
 returns c = search read-sent
 
@@ -34,8 +31,7 @@ load-sent-reference-spec =
     byte-at-requires
     byte-at-requires-2
     byte-at-requires-3
-    byte-at-requires-4
     get32-requires
-    byte-at-requires-5
+    byte-at-requires-4
     returns
     returns-2)

@@ -1,15 +1,23 @@
-use Rattle.line.specs.Mode.{farTap, capacity}
-use Rattle.line.proofs.Tests.{tests}
+use mathlib.Core.Path.{sym, _∙_}
+use borrow.Author.Needs.{needs}
+use Rattle.line.proofs.ByMode.{kept-guarded, kept-short, kept-long}
 use Rattle.line.proofs.capacity_of.Statement.{statement}
 use Rattle.line.proofs.capacity_of.Tie as tie
 
+has-guard-requires : tie.Need-has-guard-requires
+has-guard-requires c κs = search needs
+
 returns : tie.Need-returns
-unfolding capacity farTap
-returns c = search tests
+returns c = kept-guarded _ (sym (c .before .has-guard .ensures) ∙ c .if1 .taken)
+
+column-of-requires : tie.Need-column-of-requires
+column-of-requires c κs = search needs
 
 returns-2 : tie.Need-returns-2
-unfolding capacity farTap
-returns-2 c = search tests
+returns-2 c = let b = c .before .before in kept-short _ _ (c .before .column-of .ensures) (c .if2 .taken) (sym (b .before .has-guard .ensures) ∙ b .if1 .left)
+
+returns-3 : tie.Need-returns-3
+returns-3 c = let b = c .before .before in kept-long _ _ (c .before .column-of .ensures) (c .if2 .left) (sym (b .before .has-guard .ensures) ∙ b .if1 .left)
 
 pub capacity-of-spec : {M : Type 1} → statement M
-capacity-of-spec = tie.close (tie.spec returns returns-2)
+capacity-of-spec = tie.close (tie.spec has-guard-requires returns column-of-requires returns-2 returns-3)

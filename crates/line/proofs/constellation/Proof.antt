@@ -18,6 +18,9 @@ abbrev μ-loop : tie.MeasureT-loop
 loop-holds : tie.Need-loop-holds Inv-loop μ-loop
 loop-holds c = (omega arith, (refl, λ j h. absurd (omega arith)))
 
+column-of-requires : tie.Need-column-of-requires Inv-loop μ-loop
+column-of-requires c κs = search needs
+
 mul-points : tie.Need-mul-points Inv-loop μ-loop
 mul-points c = search needs
 
@@ -40,15 +43,16 @@ loop-again : tie.Need-loop-again Inv-loop μ-loop
 unfolding sent27
 loop-again c =
     let l = c .before .before .loop in
-    let m = c .before .before .before .before .args .mode in
-    (omega arith, filled-next (sentPoint m) (at (pos 0) (pos 0)) (l .s) _ (l .points) (c .before .loop-test .taken) (l .inv .1) (short-point m (l .s) (c .before .before .before .if1 .taken)))
+    let b = c .before .before .before .before in
+    let m = b .before .args .mode in
+    (omega arith, filled-next (sentPoint m) (at (pos 0) (pos 0)) (l .s) _ (l .points) (c .before .loop-test .taken) (l .inv .1) (short-point m _ (l .s) (b .column-of .ensures) (c .before .before .before .if1 .taken)))
 
 returns : tie.Need-returns Inv-loop μ-loop
 returns c = let l = c .before .loop in filled-all _ (at (pos 0) (pos 0)) (l .s) (l .points) (c .loop-test .left) (l .inv .1)
 
 returns-2 : tie.Need-returns-2 Inv-loop μ-loop
 unfolding sent32 levels32
-returns-2 c = long-points _ (c .if1 .left)
+returns-2 c = long-points _ _ (c .before .column-of .ensures) (c .if1 .left)
 
 pub constellation-spec : {M : Type 1} → statement M
 constellation-spec =
@@ -56,6 +60,7 @@ constellation-spec =
     (tie.spec
     Inv-loop
     μ-loop
+    column-of-requires
     loop-holds
     mul-points
     array-copy-out-points

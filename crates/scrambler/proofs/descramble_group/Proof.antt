@@ -1,39 +1,46 @@
-use Rattle.scrambler.proofs.GroupLaws.{all-small, descramble-law}
-use Rattle.line.proofs.ByMode.{width-range}
+use mathlib.Core.Path.{_∙_}
 use native.Mathlib.Omega.{arith}
+use Rattle.line.proofs.ByMode.{width-range}
+use Rattle.scrambler.proofs.GroupLaws.{small-column, mixed-column, all-small, descramble-law}
 use borrow.Author.Needs.{needs}
 use Rattle.scrambler.proofs.descramble_group.Statement.{statement}
 use Rattle.scrambler.proofs.descramble_group.Tie as tie
 
--- src/lib.rt:179:9
 width-of-requires : tie.Need-width-of-requires
 width-of-requires c κs = search needs
 
--- src/lib.rt:180:31
 capacity-of-requires : tie.Need-capacity-of-requires
 capacity-of-requires c κs = search needs
 
--- src/lib.rt:180:9
 unsettled-bits-requires : tie.Need-unsettled-bits-requires
 unsettled-bits-requires c κs = search needs
 
--- src/lib.rt:181:9
-mixed-requires : tie.Need-mixed-requires
-mixed-requires c κs = search needs
+guard-of-requires : tie.Need-guard-of-requires
+guard-of-requires c κs = search needs
 
--- src/lib.rt:183:16
+column-of-requires : tie.Need-column-of-requires
+column-of-requires c κs = search needs
+
+mixed-requires : tie.Need-mixed-requires
+mixed-requires c κs = small-column (c .before .before .before .before .before .args .mode) _ (c .column-of .ensures)
+
 without-first-requires : tie.Need-without-first-requires
 without-first-requires c κs =
-    let a = c .before .before .before .before .args in
-    (omega arith, omega (arith, width-range (a .mode)), all-small (a .mode) (a .role) (a .h .bits) (a .line) _ _ (c .before .before .before .width-of .ensures) (c .mixed .ensures .0))
+    let b = c .before in
+    let d = b .before .before .before .before .before in
+    let a = d .before .args in
+    (omega arith, omega (arith, width-range (a .mode)), all-small _ _ _ _ _ _ _ (d .width-of .ensures) (b .mixed .ensures .0 ∙ mixed-column (a .mode) _ _ _ _ (b .before .column-of .ensures)) (b .before .before .guard-of .ensures .0 .0))
 
--- src/lib.rt:185:15
-push-group-requires : tie.Need-push-group-requires
-push-group-requires c κs = search needs
+push-counted-requires : tie.Need-push-counted-requires
+push-counted-requires c κs = search needs
 
--- src/lib.rt:175:1
 returns : tie.Need-returns
-returns c = search descramble-law depth 9
+returns c =
+    let p = c .push-counted .ensures in
+    let b = c .before .before .before in
+    let g = b .before .before .guard-of .ensures in
+    let d = b .before .before .before .before in
+    descramble-law _ _ _ _ _ _ _ _ _ _ _ _ (d .before .width-of .ensures) (d .capacity-of .ensures) (b .before .before .before .unsettled-bits .ensures) (b .mixed .ensures .0 ∙ mixed-column (d .before .before .args .mode) _ _ _ _ (b .before .column-of .ensures)) (g .0 .0) (c .before .without-first .ensures) (p .0) (p .1) (p .2) (g .0 .1)
 
 pub descramble-group-spec : {M : Type 1} → statement M
 descramble-group-spec =
@@ -42,7 +49,9 @@ descramble-group-spec =
     width-of-requires
     capacity-of-requires
     unsettled-bits-requires
+    guard-of-requires
+    column-of-requires
     mixed-requires
     without-first-requires
-    push-group-requires
+    push-counted-requires
     returns)

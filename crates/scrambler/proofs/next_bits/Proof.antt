@@ -1,7 +1,7 @@
 use native.Mathlib.Nat.{mul-le-mul-left}
 use native.Mathlib.Omega.{arith}
-use Rattle.line.proofs.ByMode.{width-range}
-use Rattle.scrambler.proofs.GroupLaws.{full-law}
+use Rattle.line.proofs.ByMode.{width-range, not-guarded}
+use Rattle.scrambler.proofs.GroupLaws.{plain-full-law}
 use borrow.Author.Needs.{needs}
 use Rattle.scrambler.proofs.next_bits.Statement.{statement}
 use Rattle.scrambler.proofs.next_bits.Tie as tie
@@ -12,11 +12,11 @@ low-bits-requires c κs = search needs
 cast-low : tie.Need-cast-low
 cast-low c = search needs
 
-width-of-requires : tie.Need-width-of-requires
-width-of-requires c κs = search needs
+width-in-requires : tie.Need-width-in-requires
+width-in-requires c κs = search needs
 
 group-size-requires : tie.Need-group-size-requires
-group-size-requires c κs = omega (arith, width-range (c .before .before .args .mode))
+group-size-requires c κs = omega (arith, width-range (c .before .before .args .c))
 
 mul-keep-bits : tie.Need-mul-keep-bits
 mul-keep-bits c = omega (arith, mul-le-mul-left (c .before .before .before .args .n) (c .group-size .ensures .1))
@@ -30,13 +30,14 @@ keep-bits-requires c κs = search needs
 mixed-requires : tie.Need-mixed-requires
 mixed-requires c κs = search needs
 
-capacity-of-requires : tie.Need-capacity-of-requires
-capacity-of-requires c κs = search needs
+capacity-in-requires : tie.Need-capacity-in-requires
+capacity-in-requires c κs = search needs
 
 returns : tie.Need-returns
 returns c =
-    let a = c .before .before .before .before .before .before .args in
-    full-law (a .mode) (a .role) (a .n) (a .line) _ _ _ _ _ _ (c .before .before .before .before .width-of .ensures) (c .capacity-of .ensures) (c .before .before .before .before .before .low-bits .ensures .0) (c .before .before .before .group-size .ensures .0) (c .before .before .keep-bits .ensures) (c .before .mixed .ensures .0)
+    let b = c .before .before .before .before in
+    let s = b .before .before in
+    plain-full-law _ _ _ _ _ _ _ _ _ _ _ (not-guarded _ (s .pre)) (b .width-in .ensures) (c .capacity-in .ensures) (b .before .low-bits .ensures .0) (c .before .before .before .group-size .ensures .0) (c .before .before .keep-bits .ensures) (c .before .mixed .ensures .0)
 
 pub next-bits-spec : {M : Type 1} → statement M
 next-bits-spec =
@@ -44,11 +45,11 @@ next-bits-spec =
     (tie.spec
     low-bits-requires
     cast-low
-    width-of-requires
+    width-in-requires
     group-size-requires
     mul-keep-bits
     add-keep-bits
     keep-bits-requires
     mixed-requires
-    capacity-of-requires
+    capacity-in-requires
     returns)

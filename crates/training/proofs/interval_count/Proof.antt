@@ -3,6 +3,9 @@ use borrow.Author.Needs.{needs}
 use Rattle.training.proofs.interval_count.Statement.{statement}
 use Rattle.training.proofs.interval_count.Tie as tie
 
+column-of-requires : tie.Need-column-of-requires
+column-of-requires c κs = search needs
+
 reversal-count-requires : tie.Need-reversal-count-requires
 reversal-count-requires c κs = search needs
 
@@ -28,6 +31,7 @@ pub interval-count-spec : {M : Type 1} → statement M
 interval-count-spec =
     tie.close
     (tie.spec
+    column-of-requires
     reversal-count-requires
     change-count-requires
     add-result

@@ -1,17 +1,17 @@
 //! Compares the proved library with the outside implementation: line, sectors,
-//! receiver, bulk, readings, store, sender, listing, sums; image looks for a table
-//! that the library is not to have. All of them where none is named.
+//! receiver, bulk, readings, store, sender, guard, listing, sums; image looks for a
+//! table that the library is not to have. All of them where none is named.
 
 use std::process::ExitCode;
 
 use compare::{
-    bulk, image, line, listing, readings, receiving, sectors, sending, storing, summing,
+    bulk, guard, image, line, listing, readings, receiving, sectors, sending, storing, summing,
 };
 
 /// What a name compares; whether there was no difference.
 type Part = (&'static str, fn() -> bool);
 
-const PARTS: [Part; 10] = [
+const PARTS: [Part; 11] = [
     ("line", line::compare),
     ("sectors", sectors::compare),
     ("receiver", || receiving::compare(1_200_000)),
@@ -19,6 +19,7 @@ const PARTS: [Part; 10] = [
     ("readings", || readings::compare(1_000_000)),
     ("store", || storing::compare(120_000)),
     ("sender", || sending::compare(200_000)),
+    ("guard", || guard::compare(600)),
     ("listing", || listing::compare(20_000)),
     ("sums", || summing::compare(200_000)),
     ("image", image::compare),

@@ -14,7 +14,7 @@ use super::single::UNWRITTEN;
 use crate::layout::{self, ANSWER, STATE};
 use crate::signal::Signal;
 use crate::tally::Tally;
-use crate::{floats, ours, points, receiving};
+use crate::{bits, floats, guard, ours, points, receiving};
 
 /// The points of a block that was sent, and the blocks of each mode and role.
 const SENT: usize = 200;
@@ -193,7 +193,7 @@ fn run_list(tally: &mut Tally, rng: &mut Rng, length: usize) {
 }
 
 /// What a sender sent, each coordinate moved by less than half a unit, in one
-/// block: the data bits come back where they are settled.
+/// block: the data bits come back where they are assured.
 fn run_sent(tally: &mut Tally, rng: &mut Rng, signal: Signal) {
     let width = signal.mode.width as usize;
     let sender = Sender {
@@ -202,6 +202,7 @@ fn run_sent(tally: &mut Tally, rng: &mut Rng, signal: Signal) {
         reference: rng.pick(signal.mode.states),
         register: rng.below(1 << signal.mode.register_length) as u32,
         held: signal.scrambler().full(),
+        count: guard::random_count(rng, signal.mode),
     };
     let (mut state, data) = (layout::sender_bytes(&sender), rng.bits(SENT * width));
     let mut sent = [0; 2 * SENT];
@@ -216,11 +217,11 @@ fn run_sent(tally: &mut Tally, rng: &mut Rng, signal: Signal) {
         ours::receive_level_points(&mut state, &moved, &mut line, &mut plain, &mut distance);
     tally.count(sending);
     tally.count(number);
-    // The first point is the reference, and R line bits make the rest settled.
-    let unsettled = 1 + (signal.mode.register_length as usize).div_ceil(width);
-    let group = |bits: &[u8]| bits.iter().fold(0, |number, bit| 2 * number + bit);
-    let groups: Vec<u8> = data.chunks(width).map(group).collect();
-    let same = plain[unsettled..] == groups[unsettled..] && distance == [0; SENT];
+    // The first point is the reference.
+    let groups: Vec<u8> = data.chunks(width).map(bits::number_of).collect();
+    let same = bits::assured(signal.mode, &line[1..], &plain[1..], &groups[1..])
+        && bits::unsettled(&plain) == signal.mode.register_length
+        && distance == [0; SENT];
     tally.check(sending == 0 && number == 0 && same, || {
         format!("sent by {sender:?}: {sending}, {number}")
     });

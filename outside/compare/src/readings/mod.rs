@@ -2,7 +2,7 @@
 //! single and in blocks. Coordinates and powers are of every exponent, at every
 //! tie and at every whole number in range, and random.
 
-mod block;
+pub(crate) mod block;
 mod lists;
 mod refused;
 mod single;
@@ -14,6 +14,7 @@ use outside::units::{BitCount, UnitIntervals};
 
 use crate::bulk::Lent;
 use crate::floats;
+use crate::guard;
 use crate::signal::Signal;
 use crate::tally::Tally;
 use block::Block;
@@ -49,8 +50,9 @@ impl Source {
     }
 }
 
-/// States of a receiver: without a reference, with each one, and with each count
-/// of line bits; each of them at the first place, anywhere, and at the last ones.
+/// States of a receiver: without a reference, with each one, with each count of
+/// line bits, and with each of the guard's; each of them at the first place,
+/// anywhere, and at the last ones.
 fn states(rng: &mut Rng, signal: Signal) -> Vec<Receiver> {
     let fresh = signal.receiver();
     let with = |reference: u8, register: u32, held: u32| Receiver {
@@ -66,6 +68,12 @@ fn states(rng: &mut Rng, signal: Signal) -> Vec<Receiver> {
         for register in [0, ones, rng.below(1 << held) as u32] {
             made.push(with(rng.pick(signal.mode.states), register, held));
         }
+    }
+    for count in guard::counts(signal.mode) {
+        let full = signal.mode.register_length;
+        let register = rng.below(1 << full) as u32;
+        let state = with(rng.pick(signal.mode.states), register, full);
+        made.push(Receiver { count, ..state });
     }
     let anywhere = rng.below(1 << 31) as u32;
     let places = [0, anywhere, u32::MAX - 2, u32::MAX - 1, u32::MAX].map(UnitIntervals);

@@ -1,10 +1,14 @@
 //! What the rows are given.
 
+use outside::code;
 use outside::mode::Mode;
+use outside::patterns;
 use outside::point::{self, Point};
 use outside::reading::Levels;
 use outside::rng::Rng;
+use outside::sender::Sender;
 
+use crate::bits::number_of;
 use crate::{floats, points};
 
 const ORIGIN: Point = Point { re: 0, im: 0 };
@@ -12,6 +16,8 @@ const ORIGIN: Point = Point { re: 0, im: 0 };
 const ORIGINS: u64 = 64;
 /// The greatest noise of a sent point's coordinate.
 const NOISE: i64 = 300;
+/// Line bits that the guard counts over if they repeat: it fires at every 34th.
+const PATTERN: [u8; 8] = [1, 0, 0, 1, 1, 1, 0, 0];
 
 /// Random points of a mode, none of them the origin: near decision edges, near
 /// sent points, and anywhere in range.
@@ -45,6 +51,27 @@ pub fn with_origins(mode: &Mode, count: usize) -> Vec<Point> {
         }
     }
     points
+}
+
+fn repeated(bits: usize) -> Vec<u8> {
+    PATTERN.into_iter().cycle().take(bits).collect()
+}
+
+/// Sent points of a line that repeats.
+pub fn repeating(mode: &Mode, count: usize) -> Vec<Point> {
+    let width = mode.width as usize;
+    let mut state = mode.states[0];
+    let line = repeated(count * width);
+    let points = line.chunks(width).map(|bits| {
+        state = code::next_state(mode, state, number_of(bits));
+        point::sent(mode, state)
+    });
+    points.collect()
+}
+
+/// Data for which a sender's line repeats.
+pub fn repeating_data(start: &Sender, bits: usize) -> Vec<u8> {
+    patterns::data_for(start, &repeated(bits))
 }
 
 /// Points in levels that are rounded to these, with random digits to the last.

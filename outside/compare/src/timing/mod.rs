@@ -19,7 +19,7 @@ use crate::signal::Signal;
 /// timed with each role; a store's other rows do not depend on the role.
 type Row = (&'static str, fn(&str, Signal), bool);
 
-const ROWS: [Row; 17] = [
+const ROWS: [Row; 19] = [
     ("noise: plain against itself", receiving::noise, true),
     ("receive, single", receiving::single, true),
     (
@@ -44,6 +44,11 @@ const ROWS: [Row; 17] = [
         true,
     ),
     (
+        "receive, bulk, repeated line, guard firing",
+        receiving::bulk_repeating,
+        true,
+    ),
+    (
         "receive, bulk, noisy sent points, tuned in passes",
         receiving::bulk_in_passes,
         true,
@@ -55,6 +60,11 @@ const ROWS: [Row; 17] = [
         true,
     ),
     ("send, 20,000 points", sending::send, true),
+    (
+        "send, 20,000 points, repeated line, guard firing",
+        sending::send_repeating,
+        true,
+    ),
     ("open, longest training", sending::open, true),
     ("append, single, full chain", storing::append_single, false),
     ("append, bulk, 2,048 records", storing::append_bulk, false),

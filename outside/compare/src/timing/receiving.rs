@@ -387,6 +387,14 @@ pub fn bulk_noisy(name: &str, signal: Signal) {
     bulk_row(name, signal, &points, false, tuned::receive_points);
 }
 
+/// In the modes that have the guard.
+pub fn bulk_repeating(name: &str, signal: Signal) {
+    if signal.mode.guard {
+        let points = input::repeating(signal.mode, POINTS);
+        bulk_row(name, signal, &points, false, tuned::receive_points);
+    }
+}
+
 pub fn bulk_with_gaps(name: &str, signal: Signal) {
     let points = input::with_origins(signal.mode, POINTS);
     bulk_row(name, signal, &points, true, tuned::receive_points);

@@ -7,8 +7,8 @@ use outside::rng::Rng;
 use outside::sender::{self, Sender};
 use outside::tuned;
 
-use super::call_row;
 use super::measure::{Side, Work};
+use super::{call_row, input};
 use crate::layout::{self, STATE};
 use crate::ours;
 use crate::sending::{intervals, lengths};
@@ -80,6 +80,15 @@ impl Data {
         }
     }
 
+    /// Data for which the line repeats.
+    fn repeating(signal: Signal, points: usize) -> Data {
+        let data = Data::of(signal, points);
+        Data {
+            input: input::repeating_data(&data.start, data.input.len()),
+            ..data
+        }
+    }
+
     fn proved_side(&self) -> Side<'_> {
         let mut out = vec![0; 2 * self.points];
         Box::new(move |kept| {
@@ -104,6 +113,14 @@ impl Data {
             plain: Some(self.side(sender::send)),
             tuned: Some(self.side(tuned::send)),
         }
+    }
+}
+
+/// In the modes that have the guard.
+pub fn send_repeating(name: &str, signal: Signal) {
+    if signal.mode.guard {
+        let data = Data::repeating(signal, POINTS);
+        call_row(name, signal, POINTS, data.work());
     }
 }
 
