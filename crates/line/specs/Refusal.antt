@@ -19,6 +19,7 @@ abbrev pub accepted : {A : Type 0} → ℕ → A → A → A
 accepted zero a b = a
 accepted (suc n) a b = b
 
--- "1 mode not 1 to 4, a handed-in state's included; 2 role not one of the mode's, a state's included"
+-- "1 mode not 1 to 4, a handed-in state's included; 2 role not one of the mode's, a state's included"; R-6: "Numbers 1 and 12 now refuse a
+-- mode not 1 to 6"
 unfoldable pub modeRefusal : ℕ → ℕ → ℕ
 modeRefusal m role = need (isMode m) 1 (need (isRole m role) 2 0)
