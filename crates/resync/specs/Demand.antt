@@ -59,7 +59,7 @@ ByPoints =
     (a : Receiver) (before list : List Call) → guarded (a .mode) ≡ false → All IsPoint (heardCalls (afterCalls a before) list)
     → FromThePoint (a .mode) (heardCalls (afterCalls a before) list)
 
--- the same for lists of points in units and gaps alone, as it was stated before there were other calls; it follows
+-- demand 3 for lists of points in units and gaps alone, as it was stated before there were other calls; it follows
 abbrev pub OfPointsAndGaps : Type 0
 OfPointsAndGaps =
     (a b : Receiver) (beforeA beforeB listA listB : List Event) → a .mode ≡ b .mode → a .role ≡ b .role
