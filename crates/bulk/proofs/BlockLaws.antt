@@ -1,7 +1,7 @@
 -- A block is the single calls one after the other, and the ways of its code lead to that. Assumes nothing.
 use Prim.Native.Nat.{ℕ, zero, suc, _+_, _*_, _-_, _/_, _%_, _<_, _≤_}
 use mathlib.Core.Path.{_≡_, refl, sym, ap, _∙_, subst}
-use mathlib.Core.Bool.{Bool, true, false, _&&_, and-assoc}
+use mathlib.Core.Bool.{Bool, true, false, _&&_, not, and-assoc}
 use mathlib.Core.List.{List, [], _∷_, map}
 use mathlib.Core.Logic.{⊎-elim}
 use native.Mathlib.Omega.{arith}
@@ -458,6 +458,16 @@ module _ (s : Receiver) (b : Parts) (zs : List ℤ) (j : ℕ) (t : Receiver) (c 
 -- WHERE ALL DATA BITS ARE SETTLED
 
 -- a receiver with a reference and a full register
+-- the test for it, with no guard
+pub settled-test : (a b : ℕ) (g : Bool) → eqb a b && not g ≡ true → (a ≡ b) × (g ≡ false)
+settled-test a b g e =
+    let t : T (eqb a b && not g) = subst T (sym e) tt in
+    (eqb→eq a b (and-left (eqb a b) (not g) t), go g (and-right (eqb a b) (not g) t))
+  where
+    go : (g : Bool) → T (not g) → g ≡ false
+    go true n = absurd n
+    go false n = refl
+
 pub is-settled : (s : Receiver) (x full held : ℕ) → s .reference ≡ some x → full ≡ capacity (s .mode) → held ≡ full → held ≡ s .line .held .0 → s ≡ settledAt s x (s .line .bits) (s .line .count .0) 0
 is-settled s x full held er ef eh el =
     let h : s .line .held .0 ≡ capacity (s .mode) = sym el ∙ eh ∙ ef in

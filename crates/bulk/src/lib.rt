@@ -2,9 +2,9 @@
 ghost use mathlib.Core.Path.{_≡_};
 ghost use mathlib.Core.List.{map};
 ghost use Prim.Native.Nat.{_+_, _<_, _≤_};
-ghost use Rattle.line.specs.Mode.{capacity};
+ghost use mathlib.Core.Bool.{false};
+ghost use Rattle.line.specs.Mode.{guarded};
 ghost use Rattle.line.specs.Point.{at, pairs};
-ghost use Rattle.scrambler.specs.Register.{register};
 ghost use Rattle.scrambler.specs.Group.{descrambled};
 ghost use Rattle.deciding.specs.Sizes.{ringOf};
 ghost use Rattle.coding.specs.Rows.{Rows};
@@ -48,6 +48,20 @@ fn moved(s: Receiver, reference: Reference, line: Register) -> Receiver
     }
 }
 
+// The data bits of w line bits after any register. What nearly all points take is put in line; with the guard, a register that is not full
+// is left to a call.
+fn data_bits(mode: u8, role: u8, h: Register, line: u8) -> Descrambled
+    ensures { λ r. ⌜ r ≡ descrambled mode role h line ⌝ }
+{
+    if line::has_guard(mode) {
+        if h.held.0 == line::capacity_of(mode) {
+            return scrambler::descramble_counted(mode, role, h.bits, h.count.0, line);
+        }
+        return scrambler::descramble_group(mode, role, h.bits, h.held.0, h.count.0, line);
+    }
+    scrambler::descramble_plain(mode, role, h.bits, h.held.0, line)
+}
+
 // A point decided as the state y at the distance u.
 fn take(rows: &[u8; 16], s: Receiver, y: u8, u: SquaredUnits) -> Step
     requires { ⌜ Rows (s .mode) (now rows) × (s .place .0 < 4294967295) ⌝ }
@@ -67,7 +81,7 @@ fn take(rows: &[u8; 16], s: Receiver, y: u8, u: SquaredUnits) -> Step
         }
         Reference::State(x) => {
             let line = coding::group_by(s.mode, rows, x, y);
-            let d = scrambler::descramble_group(s.mode, s.role, h.bits, h.held.0, h.count.0, line);
+            let d = data_bits(s.mode, s.role, h, line);
             let after = d.next;
             let plain = 16 * d.unsettled.0 + d.plain;
             let next = moved(s, Reference::State(y), after);
@@ -133,29 +147,9 @@ fn settled(s: Receiver, x: u8, bits: u32, count: u8, i: usize) -> Receiver
     }
 }
 
-// The data bits of a group after a full register and a count. Those of a call are handed on field by field, so that the others need no
-// memory.
-fn next_data(mode: u8, role: u8, n: u32, count: u8, group: u8) -> Descrambled
-    ensures { λ r. ⌜ r ≡ descrambled mode role (register n (capacity mode) count) group ⌝ }
-{
-    if line::has_guard(mode) {
-        let d = scrambler::descramble_counted(mode, role, n, count, group);
-        return Descrambled {
-            plain: d.plain,
-            unsettled: BitCount(d.unsettled.0),
-            next: Register {
-                bits: d.next.bits,
-                held: BitCount(d.next.held.0),
-                count: BitCount(d.next.count.0),
-            },
-        };
-    }
-    scrambler::descramble_next(mode, role, n, group)
-}
-
-// Points that nothing refuses, from point `from` up to an origin or the end, after a reference and a full register: all data bits
-// are settled, and nothing but the reference, the register's bits and the guard's count changes. Nearly all points of all callers come
-// through this loop; all that it calls is put in line.
+// Points that nothing refuses, from point `from` up to an origin or the end, in a mode without the guard and after a reference and a full
+// register: all data bits are settled, and nothing but the reference and the register's bits changes. Nearly all points of modes 1 to 4
+// come through this loop; all that it calls is put in line.
 fn hear_settled(
     ring: &[u8; 16],
     rows: &[u8; 16],
@@ -167,7 +161,7 @@ fn hear_settled(
     distance: &mut [u32],
     from: usize,
 ) -> Run
-    requires { ⌜ (now ring ≡ ringOf (s .mode)) × Rows (s .mode) (now rows) × (s ≡ settledAt s reference (s .line .bits) (s .line .count .0) 0) × Hearing s (parts (now line) (now plain) (now distance)) (now points) from s (parts (now line) (now plain) (now distance)) from
+    requires { ⌜ (guarded (s .mode) ≡ false) × (now ring ≡ ringOf (s .mode)) × Rows (s .mode) (now rows) × (s ≡ settledAt s reference (s .line .bits) (s .line .count .0) 0) × Hearing s (parts (now line) (now plain) (now distance)) (now points) from s (parts (now line) (now plain) (now distance)) from
         × Holds (now points) (parts (now line) (now plain) (now distance)) ⌝ }
     ensures { λ r. ⌜ Hearing s (parts (now (line .entry)) (now (plain .entry)) (now (distance .entry))) (now (points .entry)) from (r .state) (parts (now (line .exit)) (now (plain .exit)) (now (distance .exit))) (r .at) ⌝ }
 {
@@ -188,7 +182,7 @@ fn hear_settled(
         }
         let y = deciding::state_at(s.mode, ring, re, im);
         let group = coding::group_by(s.mode, rows, x, y);
-        let d = next_data(s.mode, s.role, bits, count, group);
+        let d = scrambler::descramble_next(s.mode, s.role, bits, group);
         let state = (y % 16) as usize;
         let sent = constellation[state];
         let u = deciding::squared_distance(sent, re, im);
@@ -206,7 +200,8 @@ fn hear_settled(
     }
 }
 
-// The same where the data bits are settled; else no point.
+// The same where the data bits are settled; else, and with the guard, no point. With the guard in the loop above the compiler would turn a
+// choice between two tables there into a branch, and every mode would take longer.
 fn hear_on(
     ring: &[u8; 16],
     rows: &[u8; 16],
@@ -225,7 +220,7 @@ fn hear_on(
     match reference {
         Reference::Nothing => Run { at: from, state: s },
         Reference::State(x) => {
-            if s.line.held.0 == line::capacity_of(s.mode) {
+            if (s.line.held.0 == line::capacity_of(s.mode)) & !line::has_guard(s.mode) {
                 return hear_settled(ring, rows, s, x, points, line, plain, distance, from);
             }
             Run { at: from, state: s }

@@ -1,6 +1,6 @@
 -- What the code computes of the differential code is what the tables say. Assumes nothing.
 use mathlib.Core.Path.{_≡_, ap, ap₂, _∙_}
-use Prim.Native.Nat.{ℕ, _+_, _*_, _-_, _/_, _%_, _<_, _≤_}
+use Prim.Native.Nat.{ℕ, _+_, _*_, _-_, _/_, _%_, _<_, _≤_, min}
 use native.Mathlib.Omega.{arith}
 use mathlib.Core.Bool.{Bool, true, cond}
 use mathlib.Core.List.{List, [], _∷_}
@@ -10,7 +10,7 @@ use lib.ListN.{getD}
 use Rattle.line.specs.Table.{entry, rowFrom, firstRow}
 use Rattle.line.specs.Mode.{column, face, quadrant}
 use Rattle.coding.specs.Code.{changes4, changes8, changes16, coded, eighths, turnRow, group}
-use Rattle.line.proofs.ByMode.{same-column, mode-1, mode-2, mode-3, mode-4}
+use Rattle.line.proofs.ByMode.{column-low, column-most, same-column, mode-1, mode-2, mode-3, mode-4}
 use Rattle.line.proofs.TableLaws.{below-at, row-below, all, test-at}
 use Rattle.coding.specs.Rule.{place, turnsFor}
 use Rattle.coding.proofs.ModeLaws.{by-rule}
@@ -127,11 +127,17 @@ module _ (m k x s : ℕ) (f : k ≡ column m) where
       ∙ ap (λ (y : ℕ). 4 * turnRow (y % 4) (s / 4 % 4) + s % 4) (mode-4 x x x (x / 4 % 4) m k f h p q)
       ∙ mode-4 _ _ _ _ m k f h p q
 
+-- the column that a number is read as
+pub near-column : (c : ℕ) → min c 4 ≡ column (min c 4)
+near-column c = column-low (min c 4) (omega arith)
+
 -- the code by a mode's column is the mode's
 module _ (m k x g : ℕ) (f : k ≡ column m) where
-  pub coded-column : coded k (face k x) g ≡ coded m (face m x) g
+  pub coded-column : coded (min k 4) (face (min k 4) x) g ≡ coded m (face m x) g
   unfolding coded face
-  coded-column = ap (λ (q : ℕ). coded k q g) (same-column x x x (quadrant x) m k f) ∙ same-column _ _ _ _ m k f
+  coded-column =
+      let e : min k 4 ≡ column m = (let l = column-most m in let z : min k 4 ≡ k = omega arith in z) ∙ f in
+      ap (λ (q : ℕ). coded (min k 4) q g) (same-column x x x (quadrant x) m (min k 4) e) ∙ same-column _ _ _ _ m (min k 4) e
 
   pub group-column : group k (face k x) g ≡ group m (face m x) g
   unfolding group face

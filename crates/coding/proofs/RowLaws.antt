@@ -62,7 +62,7 @@ module _ (x s : ℕ) where
           let g : k ≡ 3 → ⊥ = λ z. omega arith in
           let z : turnRow (both / 4 % 4) (both % 4) ≤ 3 = row-most (both / 4 % 4) (both % 4) in
           by-parts m both _ _ (mode-4 _ _ _ _ m k e h f g) (mode-4 _ _ _ _ m k e h f g) (mode-4 _ _ _ _ m k e h f g)
-          ((let q : 4 * turnRow (both / 4 % 4) (both % 4) % 16 + s % 4 ≡ 4 * turnRow (both / 4 % 4) (both % 4) + s % 4 = omega arith in q)
+          ((let q : 4 * turnRow (both / 4 % 4) (both % 4) / 4 % 4 * 4 + s % 4 ≡ 4 * turnRow (both / 4 % 4) (both % 4) + s % 4 = omega arith in q)
           ∙ group-4 m k x s e _ h f g row-3)
 
 -- a column of mode 4 alone; k is the mode's column, as the code found it
@@ -79,11 +79,11 @@ module _ {A : Type 0} (a d : A) (m : ℕ) where
 
 pub row-alone : (m k row s : ℕ) → k ≡ column m → k ≤ 3 → row ≡ withRow m row s
 unfolding withRow
-row-alone m k row s e h = below-4 row (row % 16 + s % 4) m k e h
+row-alone m k row s e h = below-4 row (row / 4 % 4 * 4 + s % 4) m k e h
 
-pub row-and-low : (m k row s : ℕ) → k ≡ column m → 3 < k → row % 16 + s % 4 ≡ withRow m row s
+pub row-and-low : (m k row s : ℕ) → k ≡ column m → 3 < k → row / 4 % 4 * 4 + s % 4 ≡ withRow m row s
 unfolding withRow
-row-and-low m k row s e h = from-4 row (row % 16 + s % 4) m k e h
+row-and-low m k row s e h = from-4 row (row / 4 % 4 * 4 + s % 4) m k e h
 
 -- a row in its unit
 pub in-unit-most : (m u r : ℕ) → u ≡ rowUnit m → r ≤ 3 → u * r ≤ 12

@@ -19,7 +19,7 @@ rowAt m i =
 
 -- the group of a row and a state: in mode 4 with the state's Q3 Q4
 unfoldable pub withRow : ℕ → ℕ → ℕ → ℕ
-withRow m row s = byMode m row row row (row % 16 + s % 4)
+withRow m row s = byMode m row row row (row / 4 % 4 * 4 + s % 4)
 
 -- the rows of a mode, by their indexes
 abbrev pub Rows : ℕ → List ℕ → Type 0

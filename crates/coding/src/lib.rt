@@ -1,7 +1,7 @@
 // The differential code: document 01.
 ghost use mathlib.Core.Path.{_≡_};
 ghost use mathlib.Core.Bool.{cond};
-ghost use Prim.Native.Nat.{_+_, _*_, _≤_, _<_};
+ghost use Prim.Native.Nat.{_+_, _*_, _≤_, _<_, min};
 ghost use lib.Dec.{eqb};
 ghost use lib.ListN.{getD};
 ghost use Rattle.line.specs.Table.{entry, firstRow};
@@ -57,11 +57,11 @@ fn change16(q: u8, y: u8) -> u8
     ring_place((turns_for(q % 4) + ring_place(y)) % 4)
 }
 
-// The state that a group of line bits gives after a reference, by the mode's column. That Y1 Y2 are taken first and mode 3 is asked for
-// before mode 2 is for the compiler: in most other orders it puts the function in line in the sender's loop, and mode 2 takes longer.
-fn coded_in(c: u8, reference: u8, g: u8) -> u8
-    requires { ⌜ c ≤ 4 ⌝ }
-    ensures { λ r. ⌜ r ≡ coded c (face c reference) g ⌝ }
+// The state that a group of line bits gives after a reference, by the mode's column, which a caller finds once for many; a greater number
+// is read as 4. That Y1 Y2 are taken first and mode 3 is asked for before mode 2 is for the compiler: in most other orders it puts the
+// function in line in the sender's loop, and mode 2 takes longer.
+pub fn coded_in(c: u8, reference: u8, g: u8) -> u8
+    ensures { λ r. ⌜ r ≡ coded (min c 4) (face (min c 4) reference) g ⌝ }
 {
     let bits = g as usize;
     let y = reference / 4 % 4;
@@ -188,7 +188,7 @@ fn with_row(c: u8, row: u8, s: u8) -> u8
     requires { ⌜ c ≤ 4 ⌝ }
     ensures { λ r. ⌜ r ≡ withRow c row s ⌝ }
 {
-    if c <= 3 { row } else { row % 16 + s % 4 }
+    if c <= 3 { row } else { row / 4 % 4 * 4 + s % 4 }
 }
 
 // All rows of a column. The first is found apart: with two calls of `row_at` the loop is unrolled before they are put in line.

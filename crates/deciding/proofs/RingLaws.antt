@@ -2,7 +2,7 @@
 use mathlib.Core.Path.{_≡_, refl, sym, ap, ap₂, _∙_}
 use mathlib.Core.Bool.{Bool, true, false, _&&_, not, cond}
 use mathlib.Core.List.{List}
-use Prim.Native.Nat.{ℕ, zero, suc, _+_, _*_, _%_, _<_, _≤_}
+use Prim.Native.Nat.{ℕ, zero, suc, _+_, _*_, _/_, _%_, _^_, _<_, _≤_}
 use native.Mathlib.Omega.{arith}
 use native.Mathlib.Nat.{mul-pos}
 use native.Mathlib.Decide.{decLe}
@@ -19,7 +19,7 @@ use Rattle.line.specs.Point.{at, isOrigin}
 use Rattle.deciding.specs.Decide.{State, Origin, decide}
 use Rattle.deciding.specs.Sizes.{bitOf, belowOf, quadrantOf, sq, farOf, ringOf, ringIndex}
 use Rattle.line.proofs.ByMode.{same-column, mode-1, mode-2, mode-3, mode-4}
-use Rattle.line.proofs.TableLaws.{pairs-below}
+use Rattle.line.proofs.TableLaws.{below-at, pairs-below}
 use Rattle.deciding.proofs.Arcs.{arc, state1, state2, ring3, state3, ring4, outerSize, state4, stateArc}
 use Rattle.deciding.proofs.SizeLaws.{not-zero, arc-decide}
 
@@ -226,6 +226,27 @@ looked-up m re im ring n e q o = ap State (ring-law m re im ring n q e) ∙ by-r
 pub origin-none : (m : ℕ) (re im : ℤ) → isOrigin (at re im) ≡ true → Origin ≡ decide m (at re im)
 unfolding decide
 origin-none m re im e = rw e
+
+-- THE PACKED RINGS
+
+-- one computed test: the number holds the states of column j's ring, each in four bits
+abbrev pub Packs : ℕ → ℕ → Type 0
+Packs j n = T (every (λ i. eqb (n / 2 ^ (4 * i) % 16) (getD (ringOf j) i 0)) (below 16))
+
+pub unpacked : (j : ℕ) (re im : ℤ) (n i r : ℕ) → r ≡ n / 2 ^ (4 * i) % 16 → Packs j n → (i ≡ ringIndex j re im) × (i < 16)
+    → r ≡ getD (ringOf j) (ringIndex j re im) 0
+unpacked j re im n i r q t h =
+    q ∙ eqb→eq _ _ (below-at (λ k. eqb (n / 2 ^ (4 * k) % 16) (getD (ringOf j) k 0)) 16 t i (h .1)) ∙ ap (λ (k : ℕ). getD (ringOf j) k 0) (h .0)
+
+-- the code takes the way of column 1 for 0 too
+pub first-state : (m : ℕ) (re im : ℤ) → m ≤ 1 → getD (ringOf 1) (ringIndex 1 re im) 0 ≡ getD (ringOf m) (ringIndex m re im) 0
+unfolding ringOf ringIndex farOf
+first-state zero re im h = refl
+first-state (suc zero) re im h = refl
+first-state (suc (suc m)) re im h = absurd (let f : ⊥ = omega arith in f)
+
+pub same-state : (j m : ℕ) (re im : ℤ) → j ≡ m → getD (ringOf j) (ringIndex j re im) 0 ≡ getD (ringOf m) (ringIndex m re im) 0
+same-state j m re im e = ap (λ (k : ℕ). getD (ringOf k) (ringIndex k re im) 0) e
 
 -- WHAT THE FUNCTIONS COMPUTE
 

@@ -1,7 +1,7 @@
 // Deciding a point: document 01.
 ghost use mathlib.Core.Path.{_≡_};
 ghost use mathlib.Core.Bool.{true, false};
-ghost use Prim.Native.Nat.{_%_, _≤_};
+ghost use Prim.Native.Nat.{_*_, _/_, _%_, _^_, _≤_, _<_};
 ghost use lib.IntN.{pos};
 ghost use lib.ListN.{getD};
 ghost use Rattle.line.specs.Point.{at, isOrigin};
@@ -100,42 +100,56 @@ pub fn is_origin(re: i16, im: i16) -> bool
     (size(re) == 0) & (size(im) == 0)
 }
 
-// The state of a point off the origin, by its mode's column and ring. There is one formula for all modes.
-fn state_in(c: u8, ring: &[u8; 16], re: i16, im: i16) -> u8
+// The place of a point off the origin in its ring, by its mode's column. There is one formula for all modes.
+fn ring_index(c: u8, re: i16, im: i16) -> usize
     requires { ⌜ c ≤ 4 ⌝ }
-    ensures { λ r. ⌜ r ≡ getD (now (ring .entry)) (ringIndex c re im) 0 ⌝ }
+    ensures { λ r. ⌜ r ≡ ringIndex c re im ⌝ }
+    ensures { λ r. ⌜ r < 16 ⌝ }
 {
     let x = size(re);
     let y = size(im);
     let down = bit(below(im, !below(re, true)));
     let left = bit(below(re, below(im, false)));
-    ring[8 * down + 4 * left + (2 * bit(far(c, y, x)) + bit(far(c, x, y)))]
+    8 * down + 4 * left + (2 * bit(far(c, y, x)) + bit(far(c, x, y)))
 }
 
-// The same by the mode and its ring, which the law `looked-up` asks for.
+// The state of a point off the origin, by its mode and the mode's ring, which the law `looked-up` asks for.
 pub fn state_at(mode: u8, ring: &[u8; 16], re: i16, im: i16) -> u8
     ensures { λ r. ⌜ r ≡ getD (now (ring .entry)) (ringIndex mode re im) 0 ⌝ }
 {
-    state_in(line::column_of(mode), ring, re, im)
+    ring[ring_index(line::column_of(mode), re, im)]
 }
 
-// The same by the column alone. Each has a way of its own, so that no ring is copied and no test asks for the column again.
+// The rings again, each state in four bits, the first lowest: so a single point's state needs no table in memory.
+const PACKED1: u64 = 7233907340693610528;
+
+const PACKED2: u64 = 4928451363331047457;
+
+const PACKED3: u64 = 5859707947622964637;
+
+const PACKED4: u64 = 3539959413393128940;
+
+// The state at a place of a packed ring.
+fn packed_at(ring: u64, i: usize) -> u8
+    requires { ⌜ i < 16 ⌝ }
+    ensures { λ r. ⌜ r ≡ ring / 2 ^ (4 * i) % 16 ⌝ }
+{
+    ((ring >> ((4 * i) as u32)) % 16) as u8
+}
+
+// The state of a point off the origin, by the column alone. Each has a way of its own, so that no test asks for the column again.
 fn state_of(c: u8, re: i16, im: i16) -> u8
     requires { ⌜ c ≤ 4 ⌝ }
     ensures { λ r. ⌜ r ≡ getD (ringOf c) (ringIndex c re im) 0 ⌝ }
 {
     if c <= 1 {
-        let ring = RING1;
-        state_in(c, &ring, re, im)
+        packed_at(PACKED1, ring_index(1, re, im))
     } else if c == 2 {
-        let ring = RING2;
-        state_in(c, &ring, re, im)
+        packed_at(PACKED2, ring_index(2, re, im))
     } else if c == 3 {
-        let ring = RING3;
-        state_in(c, &ring, re, im)
+        packed_at(PACKED3, ring_index(3, re, im))
     } else {
-        let ring = RING4;
-        state_in(c, &ring, re, im)
+        packed_at(PACKED4, ring_index(4, re, im))
     }
 }
 

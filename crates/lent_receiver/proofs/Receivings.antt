@@ -74,6 +74,14 @@ module _ (state answer : List ℕ) (o : Outcome) where
   unfolding handedNumber handedState handedAnswer
   handed-short n r h p q = let f : leb 12 (length answer) ≡ false = lt-leb _ _ h in (rw (f, ← p) q, rw f, rw f)
 
+  pub short-refused : (n r : ℕ) → length answer < 12 → o ≡ Refused n → r ≡ atMost7 n → Handed r state answer
+  short-refused n r h e = handed-short n r h (sym (ap numberOut e))
+
+  -- an outcome that refuses nothing
+  pub short-taken : (x : Outcome) → length answer < 12 → o ≡ x → numberOut x ≡ 0 → Handed 7 state answer
+  unfolding atMost7
+  short-taken x h e z = handed-short 0 7 h (sym (ap numberOut e ∙ z)) refl
+
   module _ (h : 12 ≤ length answer) where
     handed : (x : Outcome) (st an : List ℕ) → o ≡ x → st ≡ stateAfter x state → an ≡ sets answer 0 (answerOut x) → Handed (numberOut x) st an
     unfolding handedNumber handedState handedAnswer

@@ -152,27 +152,38 @@ fn at_most_7(n: u8) -> u8
 }
 
 // Writes what the outcome of a point gives into the lent bytes: 0, or the number that refuses the point. It has one caller, and so is
-// put in line there.
+// put in line there. The length is asked for in each case: so the compiler need not tell the cases apart twice.
 fn hand_back(state: &mut [u8], answer: &mut [u8], o: Outcome) -> u8
     requires { ⌜ 16 ≤ size (now state) ⌝ }
     ensures { λ r. ⌜ (r ≡ handedNumber (now (answer .entry)) o) × (now (state .exit) ≡ handedState (now (state .entry)) (now (answer .entry)) o) × (now (answer .exit) ≡ handedAnswer (now (answer .entry)) o) ⌝ }
 {
-    if answer.len() < 12 {
-        return at_most_7(number_of(o));
-    }
     match o {
-        Outcome::Refused(n) => n,
+        Outcome::Refused(n) => {
+            if answer.len() < 12 {
+                return at_most_7(n);
+            }
+            n
+        }
         Outcome::Referenced(d, t) => {
+            if answer.len() < 12 {
+                return 7;
+            }
             put_receiver(state, t);
             put_answer(answer, 0, 0, 0, 0, 0, d.0);
             0
         }
         Outcome::Bits(g, d, t) => {
+            if answer.len() < 12 {
+                return 7;
+            }
             put_receiver(state, t);
             put_answer(answer, 1, g.line, g.plain, g.unsettled.0, 0, d.0);
             0
         }
         Outcome::Gap(n, t) => {
+            if answer.len() < 12 {
+                return 7;
+            }
             put_receiver(state, t);
             put_answer(answer, 2, 0, 0, 0, n.0, 0);
             0

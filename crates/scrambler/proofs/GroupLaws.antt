@@ -4,6 +4,7 @@ use mathlib.Core.Path.{_≡_, refl, sym, _∙_, ap, ap₂, subst, subst⁻¹}
 use mathlib.Core.Bool.{Bool, true, false, _&&_, _||_, cond}
 use mathlib.Core.List.{List, [], _∷_, _++_}
 use native.Mathlib.Nat.{mod-le, mod-lt, mod-eq-of-lt, mul-assoc, mul-add-mod-self-right, sub-zero}
+use native.Mathlib.Decide.{decLe}
 use native.Mathlib.Omega.{arith}
 use borrow.Author.Tests.{le-leb, lt-leb, ltb-false}
 use lib.Dec.{T, eqb, leb, ltb, ltb→lt, lt→ltb}
@@ -20,11 +21,12 @@ use Rattle.scrambler.specs.declared.Descrambled.{Descrambled}
 use Rattle.scrambler.specs.Bits.{isBit, bits, value}
 use Rattle.scrambler.specs.Register.{register, back, nearTap, counting, inverting, differs, countAfter, push, pushes}
 use Rattle.scrambler.specs.Scramble.{mix, scramble, Datum, unsettled, settled, mark, descramble}
-use Rattle.scrambler.specs.Group.{scrambled, plainOf, unsettledIn, descrambled, marked}
+use Rattle.scrambler.specs.Group.{scrambled, guardMode, plainOf, unsettledIn, descrambled, marked}
 use Rattle.scrambler.specs.Laws.{Unscrambled, ZerosSent}
 use Rattle.scrambler.specs.Windows.{mixedAtOnce, differAtOnce, inversion, counted, inversions, countOver}
 use Rattle.scrambler.proofs.BitLaws.{length-bits, value-bits, value-small, bits-value}
 use Rattle.scrambler.proofs.RegisterLaws.{same-register, push-group, full-push, plain-count}
+use Rattle.scrambler.proofs.GuardLaws.{last-bits}
 use Rattle.scrambler.proofs.WindowLaws.{mix-small, unmixed, bits-inversions, inverted, scramble-at-once, unmixed-at-once}
 
 -- lengths, and bits that are bits
@@ -207,77 +209,22 @@ as-six m e = (e ∙ sym six, sym (kept-guarded m e) ∙ kept-guarded 6 six)
     six : guarded 6 ≡ true
     six = unfold guarded in refl
 
-lowest : (f : ℕ) → f % 2 ≡ f / 2 ^ 0 % 2
-lowest f = omega arith
-
--- three bits of a group, or two, one after the other
-pub three-law : (w k c f : ℕ) (v k₁ c₁ v₁ k₂ c₂ v₂ c₃ v₃ : ℕ) → v ≡ 0 → w ≡ 3
-    → (k₁ ≡ min (k + 1) (capacity 6)) × (c₁ ≡ counted 6 k c (f / 4 % 2)) × (v₁ ≡ 2 * v + inversion 6 k c)
-    → (k₂ ≡ min (k₁ + 1) (capacity 6)) × (c₂ ≡ counted 6 k₁ c₁ (f / 2 % 2)) × (v₂ ≡ 2 * v₁ + inversion 6 k₁ c₁)
-    → (c₃ ≡ counted 6 k₂ c₂ (f % 2)) × (v₃ ≡ 2 * v₂ + inversion 6 k₂ c₂)
-    → (v₃ ≡ value (inversions 6 k c (bits w f))) × (c₃ ≡ countOver 6 k c (bits w f))
-three-law w k c f v k₁ c₁ v₁ k₂ c₂ v₂ c₃ v₃ e0 e3 a b d =
-    let ek : k₂ ≡ min (min (k + 1) (capacity 6) + 1) (capacity 6) = b .0 ∙ ap (λ (x : ℕ). min (x + 1) (capacity 6)) (a .0) in
-    let ec : c₂ ≡ counted 6 (min (k + 1) (capacity 6)) (counted 6 k c (f / 4 % 2)) (f / 2 % 2) = b .1 ∙ ap₂ (λ (x y : ℕ). counted 6 x y (f / 2 % 2)) (a .0) (a .1) in
-    let ev : v₂ ≡ 2 * (2 * 0 + inversion 6 k c) + inversion 6 (min (k + 1) (capacity 6)) (counted 6 k c (f / 4 % 2)) =
-    b .2 ∙ ap₂ (λ (x y : ℕ). 2 * x + y) (a .2 ∙ ap (λ (x : ℕ). 2 * x + inversion 6 k c) e0) (ap₂ (inversion 6) (a .0) (a .1)) in
-    subst⁻¹ (λ (n : ℕ). (v₃ ≡ value (inversions 6 k c (bits n f))) × (c₃ ≡ countOver 6 k c (bits n f))) e3 (
-      d .1 ∙ ap₂ (λ (x y : ℕ). 2 * x + y) ev (ap₂ (inversion 6) ek ec) ∙ by-twos _ _ _,
-      d .0 ∙ ap (λ (x : ℕ). counted 6 k₂ c₂ x) (lowest f) ∙ ap₂ (λ (x y : ℕ). counted 6 x y (f / 2 ^ 0 % 2)) ek ec,
-    )
-  where
-    by-twos : (x y z : ℕ) → 2 * (2 * (2 * 0 + x) + y) + z ≡ value (x ∷ y ∷ z ∷ [])
-    by-twos x y z = omega arith
-
-pub two-law : (w k c f : ℕ) (v k₁ c₁ v₁ c₂ v₂ : ℕ) → v ≡ 0 → w ≡ 2
-    → (k₁ ≡ min (k + 1) (capacity 6)) × (c₁ ≡ counted 6 k c (f / 2 % 2)) × (v₁ ≡ 2 * v + inversion 6 k c)
-    → (c₂ ≡ counted 6 k₁ c₁ (f % 2)) × (v₂ ≡ 2 * v₁ + inversion 6 k₁ c₁)
-    → (v₂ ≡ value (inversions 6 k c (bits w f))) × (c₂ ≡ countOver 6 k c (bits w f))
-two-law w k c f v k₁ c₁ v₁ c₂ v₂ e0 e2 a b =
-    subst⁻¹ (λ (n : ℕ). (v₂ ≡ value (inversions 6 k c (bits n f))) × (c₂ ≡ countOver 6 k c (bits n f))) e2 (
-      b .1 ∙ ap₂ (λ (x y : ℕ). 2 * x + y) (a .2 ∙ ap (λ (x : ℕ). 2 * x + inversion 6 k c) e0) (ap₂ (inversion 6) (a .0) (a .1)) ∙ by-twos _ _,
-      b .0 ∙ ap (λ (x : ℕ). counted 6 k₁ c₁ x) (lowest f) ∙ ap₂ (λ (x y : ℕ). counted 6 x y (f / 2 ^ 0 % 2)) (a .0) (a .1),
-    )
-  where
-    by-twos : (x y : ℕ) → 2 * (2 * 0 + x) + y ≡ value (x ∷ y ∷ [])
-    by-twos x y = omega arith
-
--- the whole of what the guard does to a group of a mode
-pub guard-law : (m w k c n y f v r : ℕ) → guarded m ≡ true → w ≡ width m → f ≡ differAtOnce w n y
-    → (v ≡ value (inversions 6 k c (bits w f))) × (r ≡ countOver 6 k c (bits w f))
+-- the whole of what the guard does to a group of a mode, by the last bits of the group
+pub guard-law : (m w k c n y f u d b v r : ℕ) → guarded m ≡ true → w ≡ width m → f ≡ differAtOnce w n y → u ≡ min (12 - k) w → d ≡ f % 2 ^ w % 2 ^ (w - u)
+    → b ≡ cond (ltb 0 u) 0 (min c 33) → (v ≡ value (inversions 6 12 b (bits (w - u) d))) × (r ≡ countOver 6 12 b (bits (w - u) d))
     → (v ≡ value (inversions m k c (bits (width m) (differAtOnce (width m) n y)))) × (r ≡ countOver m k c (bits (width m) (differAtOnce (width m) n y)))
-guard-law m w k c n y f v r g ew ed p =
+guard-law m w k c n y f u d b v r g ew ef eu ed eb p =
     let z = as-six m g in
     let es : List ℕ = bits (width m) (differAtOnce (width m) n y) in
-    let e : bits w f ≡ es = ap₂ bits ew (ed ∙ ap (λ (x : ℕ). differAtOnce x n y) ew) in
+    let e : bits w f ≡ es = ap₂ bits ew (ef ∙ ap (λ (x : ℕ). differAtOnce x n y) ew) in
     let l = like-modes m 6 k c es (z .0) (z .1) in
-    (p .0 ∙ ap (λ (l : List ℕ). value (inversions 6 k c l)) e ∙ sym (ap value (l .0)), p .1 ∙ ap (countOver 6 k c) e ∙ sym (l .1))
+    let s = last-bits w k c f u d (let q = width-range m in omega arith) eu ed in (
+      p .0 ∙ ap (λ (x : ℕ). value (inversions 6 12 x (bits (w - u) d))) eb ∙ sym (s .0) ∙ ap (λ (l : List ℕ). value (inversions 6 k c l)) e ∙ sym (ap value (l .0)),
+      p .1 ∙ ap (λ (x : ℕ). countOver 6 12 x (bits (w - u) d)) eb ∙ sym (s .1) ∙ ap (countOver 6 k c) e ∙ sym (l .1),
+    )
 
 zero-times : (n : ℕ) → 0 * n + 0 ≡ 0
 zero-times n = omega arith
-
--- where the count cannot come to 33 nothing is inverted
-quiet : (m k c : ℕ) (es : List ℕ) → c + length es ≤ 33 → value (inversions m k c es) ≡ 0
-quiet m k c [] h = refl
-quiet m k c (e ∷ es) h =
-    let r : ℕ = min (k + 1) (capacity m) in
-    let d : ℕ = counted m k c e in
-    let i : inversion m k c ≡ 0 = not-yet (guarded m && leb (capacity m) k) (lt-leb 33 c (omega arith)) in
-    let n : d ≤ c + 1 = at-most (guarded m && leb (capacity m) k) (leb 33 c || eqb e 1) in
-    let v = quiet m r d es (omega arith) in
-    ap₂ (λ (b x : ℕ). b * 2 ^ length (inversions m r d es) + x) i v ∙ zero-times (2 ^ length (inversions m r d es))
-  where
-    not-yet : (b : Bool) → leb 33 c ≡ false → _≡_ {A = ℕ} (cond (b && leb 33 c) 1 0) 0
-    not-yet true z = ap {B = ℕ} (λ (t : Bool). cond t 1 0) z
-    not-yet false z = refl
-
-    at-most : (a b : Bool) → cond a (cond b 0 (c + 1)) 0 ≤ c + 1
-    at-most true true = omega arith
-    at-most true false = omega arith
-    at-most false b = omega arith
-
-pub quiet-law : (m k c f : ℕ) → guarded m ≡ true → c ≤ 30 → 0 ≡ value (inversions m k c (bits (width m) f))
-quiet-law m k c f g h = sym (quiet m k c (bits (width m) f) (let w = guarded-width m g in let l = length-bits (width m) f in omega arith))
 
 -- without the guard nothing is inverted, and the count is zero after a bit
 plain-along : (m k c : ℕ) (es : List ℕ) → guarded m ≡ false → (value (inversions m k c es) ≡ 0) × ((e : ℕ) → countOver m k c (e ∷ es) ≡ 0)
@@ -300,6 +247,9 @@ plain-guard m k c f g = (
 pub mixed-small : (m role n x : ℕ) → mixedAtOnce m role n x < 2 ^ width m
 unfolding mixedAtOnce
 mixed-small m role n x = mod-lt (bitXor (bitXor x (n / 2 ^ (nearTap m role - width m))) (n / 2 ^ (farTap m - width m))) (pow-pos (width m))
+
+pub small-group : (m role n x w all : ℕ) → w ≡ width m → all ≡ mixedAtOnce m role n x → all < 2 ^ w
+small-group m role n x w all ew ea = rw (ew, ea) (mixed-small m role n x)
 
 inverted-small : (m w : ℕ) (h : Register) (y : ℕ) → inverted m w h y < 2 ^ w
 inverted-small m w h y =
@@ -372,6 +322,15 @@ module _ (m role : ℕ) (h : Register) (g : ℕ) where
       let n : next ≡ pushes m h (bits (width m) g) = same-register next _ eb eh (en ∙ ec ∙ sym (unmixed-at-once m role h g .1)) in
       λ i. record { plain = y i; unsettled = record { 0 = x i }; next = n i }
 
+  -- without the guard the bits as they are mixed
+  pub plain-descramble-law : (w full u all plain : ℕ) (next : Register) → guarded m ≡ false → w ≡ width m → full ≡ capacity m → u ≡ min (full - h .held .0) w
+      → all ≡ mixedAtOnce m role (h .bits) g → plain ≡ all % 2 ^ (w - u) → next ≡ pushes m h (bits (width m) g)
+      → _≡_ {A = Descrambled} (record { plain = plain; unsettled = record { 0 = u }; next = next }) (descrambled m role h g)
+  plain-descramble-law w full u all plain next p ew ef eu ea ep en =
+      let z = plain-guard m (h .held .0) (h .count .0) (differAtOnce (width m) (h .bits) g) p in
+      descramble-law w full u all 0 plain (next .count .0) next ew ef eu ea (z .0) (ep ∙ ap (λ (x : ℕ). x % 2 ^ (w - u)) (sym (xor-zero-r all)))
+      (ap (λ (k : Register). k .bits) en) (ap (λ (k : Register). k .held .0) en) refl (ap (λ (k : Register). k .count .0) en ∙ unmixed-at-once m role h g .1)
+
   -- a group's marks and data bits are read back from the numbers
   pub group-read : marked (unsettledIn (descramble m role h (bits (width m) g))) (bits (width m) (plainOf (descramble m role h (bits (width m) g)))) ≡ descramble m role h (bits (width m) g)
   group-read =
@@ -381,6 +340,23 @@ module _ (m role : ℕ) (h : Register) (g : ℕ) where
     where
       ds₀ : List Datum
       ds₀ = marked (capacity m - h .held .0) (unmixed m role h (bits (width m) g))
+
+-- without the guard as the column, whatever is counted
+pub plain-law : (m role g : ℕ) (h : Register) (d : Descrambled) → guarded m ≡ false → d ≡ descrambled (column m) role (register (h .bits) (h .held .0) 0) g → d ≡ descrambled m role h g
+plain-law m role g h d p e =
+    e ∙ ap (λ (k : ℕ). descrambled k role (register (h .bits) (h .held .0) 0) g) (plain-column m p) ∙ sym (whole (register (h .bits) (h .held .0) 0)) ∙ whole h
+  where
+    whole : (k : Register)
+        → _≡_ {A = Descrambled}
+        (record {
+          plain = mixedAtOnce m role (k .bits) g % 2 ^ (width m - min (capacity m - k .held .0) (width m));
+          unsettled = record { 0 = min (capacity m - k .held .0) (width m) };
+          next = register ((k .bits * 2 ^ width m + g % 2 ^ width m) % 2 ^ capacity m) (min (k .held .0 + width m) (capacity m)) 0;
+        })
+        (descrambled m role k g)
+    whole k =
+        plain-descramble-law m role k g (width m) (capacity m) _ _ _ _ p refl refl refl refl refl
+        (push-plain m k g _ _ p (push-law m k g (width m) (capacity m) _ _ _ _ refl refl refl refl refl refl))
 
 -- a group's numbers are small, so that one byte holds both
 pub descrambled-small : (m role : ℕ) (h : Register) (g : ℕ) → (descrambled m role h g .plain < 16) × (descrambled m role h g .unsettled .0 ≤ 4)
@@ -440,6 +416,38 @@ module _ (m role n c g : ℕ) where
   pub after-full : (descrambled m role (register n (capacity m) c) g .unsettled .0 ≡ 0) × (descrambled m role (register n (capacity m) c) g .next .held .0 ≡ capacity m)
   unfolding full-group
   after-full = (sym (ap (λ (d : Descrambled). d .unsettled .0) full-whole), sym (ap (λ (d : Descrambled). d .next .held .0) full-whole))
+
+-- two modes that read one column and both count, or both do not, descramble alike
+like-law : (k m role n c g : ℕ) → guarded k ≡ guarded m → ((x y z w : ℕ) → byMode k x y z w ≡ byMode m x y z w)
+    → descrambled k role (register n (capacity k) c) g ≡ descrambled m role (register n (capacity m) c) g
+unfolding full-group width farTap nearTap capacity
+like-law k m role n c g eg read =
+    let ew : width k ≡ width m = read 2 3 2 4 in
+    let ef : farTap k ≡ farTap m = read 7 7 23 23 in
+    let ec : capacity k ≡ capacity m = ap₂ (λ (t : Bool) (r : ℕ). cond t 12 r) eg ef in
+    let ei : full-group k role n c g .plain ≡ full-group m role n c g .plain =
+    ap₂ bitXor (same-mix k m role n g ew (read 6 6 _ _) ef)
+    (ap₂ (λ (w r : ℕ). value (inversions k r c (bits w (differAtOnce w n g)))) ew ec ∙ ap value (like-modes k m (capacity m) c (bits (width m) (differAtOnce (width m) n g)) eg ec .0)) in
+    let en : full-group k role n c g .next ≡ full-group m role n c g .next =
+    same-register _ _ (ap₂ (λ (w r : ℕ). (n * 2 ^ w + g % 2 ^ w) % 2 ^ r) ew ec) ec
+    (ap₂ (λ (w r : ℕ). countOver k r c (bits w (differAtOnce w n g))) ew ec ∙ like-modes k m (capacity m) c (bits (width m) (differAtOnce (width m) n g)) eg ec .1) in
+    sym (full-whole k role n c g) ∙ (λ i. record { plain = ei i; unsettled = record { 0 = 0 }; next = en i }) ∙ full-whole m role n c g
+
+-- so a mode with the guard as the one that it counts as
+pub counted-law : (m role n c g : ℕ) (d : Descrambled) → guarded m ≡ true → d ≡ descrambled (guardMode m) role (register n (capacity (guardMode m)) c) g
+    → d ≡ descrambled m role (register n (capacity m) c) g
+unfolding guarded
+counted-law m role n c g d p e = go (decLe m 5)
+  where
+    above : 4 < m
+    above = ltb→lt 4 m (subst T (sym p) tt)
+
+    go : Dec (m ≤ 5) → d ≡ descrambled m role (register n (capacity m) c) g
+    go (yes h) = e ∙ ap (λ (k : ℕ). descrambled k role (register n (capacity k) c) g) (let f : m ≡ 5 = (let a = above in omega arith) in rw f refl)
+    go (no h) =
+        let a = above in
+        e ∙ ap (λ (k : ℕ). descrambled k role (register n (capacity k) c) g) (let f : guardMode m ≡ 6 = rw (lt-leb m 5 (omega (arith, h))) refl in f)
+        ∙ like-law 6 m role n c g (sym p) (λ x y z w. rw (lt-leb m 4 (omega arith), lt-leb m 5 (omega (arith, h))) refl)
 
 -- two modes of one column, without the guard, descramble alike, whatever is counted
 pub column-law : (k m role n c g : ℕ) (d : Descrambled) → d ≡ descrambled k role (register n (capacity k) 0) g → guarded k ≡ false → guarded m ≡ false

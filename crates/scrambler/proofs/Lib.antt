@@ -1,4 +1,5 @@
 pub mod BitLaws
 pub mod WindowLaws
 pub mod RegisterLaws
+mod GuardLaws
 pub mod GroupLaws

@@ -13,7 +13,7 @@ use lib.Pow.{pow-pos, mod-mod-pow}
 use Rattle.line.specs.Table.{every}
 use Rattle.line.specs.Mode.{guarded, capacity}
 use Rattle.line.proofs.TableLaws.{and-left, and-right, and-intro}
-use Rattle.line.proofs.ByMode.{capacity-range}
+use Rattle.line.proofs.ByMode.{capacity-range, kept-guarded}
 use Rattle.scrambler.specs.declared.Register.{Register}
 use Rattle.scrambler.specs.Bits.{isBit, bits}
 use Rattle.scrambler.specs.Register.{register, fresh, back, counting, differs, countAfter, push, pushes, registerOk}
@@ -96,8 +96,8 @@ register-holds m bs t =
 -- WHAT NUMBER 4 ASKS
 
 -- the greatest count, by the test that the code makes
-pub limit-law : (m full held : ℕ) (g b : Bool) → g ≡ guarded m → full ≡ capacity m → g && leb full held ≡ b → _≡_ {A = ℕ} (cond b 33 0) (cond (guarded m && leb (capacity m) held) 33 0)
-limit-law m full held g b eg ef e = ap {B = ℕ} (λ (t : Bool). cond t 33 0) (sym e ∙ ap₂ (λ (t : Bool) (n : ℕ). t && leb n held) eg ef)
+pub guarded-limit : (m k limit : ℕ) → guarded m ≡ true → limit ≡ cond (leb 12 k) 33 0 → limit ≡ cond (guarded m && leb (capacity m) k) 33 0
+guarded-limit m k limit g e = rw (g, sym (kept-guarded m g)) e
 
 pub ok-law : (m : ℕ) (h : Register) (full limit : ℕ) → full ≡ capacity m → h .held .0 ≤ full → limit ≡ cond (guarded m && leb (capacity m) (h .held .0)) 33 0
     → eqb (h .bits / 2 ^ h .held .0) 0 && leb (h .count .0) limit ≡ registerOk m h
@@ -115,6 +115,16 @@ ok-law m h full limit e l f =
         go (no h) =
             ne-eqb (x / p) 0 (λ z. h (let s = div-add-mod' x p in let r = mod-lt x q in let y : x / p * p ≡ 0 * p = ap (λ (n : ℕ). n * p) z in omega arith))
             ∙ sym (le-ltb x p (omega (arith, h)))
+
+-- without the guard the count is zero
+pub plain-ok-law : (m : ℕ) (h : Register) (full : ℕ) → full ≡ capacity m → h .held .0 ≤ full → guarded m ≡ false
+    → eqb (h .bits / 2 ^ h .held .0) 0 && eqb (h .count .0) 0 ≡ registerOk m h
+plain-ok-law m h full e l g =
+    ap (λ (t : Bool). eqb (h .bits / 2 ^ h .held .0) 0 && t) (nothing (h .count .0)) ∙ ok-law m h full 0 e l (rw g refl)
+  where
+    nothing : (c : ℕ) → eqb c 0 ≡ leb c 0
+    nothing zero = refl
+    nothing (suc c) = ne-eqb (suc c) 0 (λ z. omega arith) ∙ sym (lt-leb (suc c) 0 (omega arith))
 
 pub not-ok-law : (m : ℕ) (h : Register) (full : ℕ) → full ≡ capacity m → full < h .held .0 → false ≡ registerOk m h
 unfolding registerOk

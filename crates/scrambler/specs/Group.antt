@@ -1,6 +1,8 @@
 -- A point's w bits at once, as numbers.
 use Prim.Native.Nat.{ℕ, zero, suc, _+_, _*_, _^_}
 use mathlib.Core.List.{List, [], _∷_}
+use mathlib.Core.Bool.{cond}
+use lib.Dec.{leb}
 use lib.ListN.{length}
 use Rattle.line.specs.Mode.{width}
 use Rattle.scrambler.specs.declared.Register.{Register}
@@ -14,6 +16,10 @@ use Rattle.scrambler.specs.Scramble.{scramble, Datum, unsettled, settled
 unfoldable pub scrambled : ℕ → ℕ → Register → ℕ → Scrambled
 scrambled m role h d =
     record { line = value (scramble m role h (bits (width m) d)); next = pushes m h (scramble m role h (bits (width m) d)) }
+
+-- the mode with the guard that a mode above 4 counts as: 5, or 6 like every greater number
+abbrev pub guardMode : ℕ → ℕ
+guardMode m = cond (leb m 5) 5 6
 
 -- data bits as a number, an unsettled one as 0, and how many are unsettled
 abbrev pub plainOf : List Datum → ℕ

@@ -1,14 +1,14 @@
 // The scrambler's register, and scrambling and descrambling the bits of a point: document 01; the guard of modes 5 and 6: document 02, R-6.
 ghost use mathlib.Core.Path.{_≡_};
-ghost use mathlib.Core.Bool.{true, _&&_, cond};
-ghost use lib.Dec.{leb};
+ghost use mathlib.Core.Bool.{true, cond};
+ghost use lib.Dec.{eqb, leb, ltb};
 ghost use mathlib.Core.List.{_∷_, []};
-ghost use Prim.Native.Nat.{_+_, _*_, _-_, _^_, _%_, _≤_, _<_, min};
+ghost use Prim.Native.Nat.{_+_, _*_, _-_, _^_, _/_, _%_, _≤_, _<_, min};
 ghost use Rattle.line.specs.Mode.{column, width, farTap, guarded, capacity};
 ghost use Rattle.scrambler.specs.Bits.{bits, value};
 ghost use Rattle.scrambler.specs.Register.{register, fresh, nearTap, pushes, registerOk};
-ghost use Rattle.scrambler.specs.Group.{scrambled, descrambled};
-ghost use Rattle.scrambler.specs.Windows.{mixedAtOnce, differAtOnce, inversion, counted, inversions, countOver};
+ghost use Rattle.scrambler.specs.Group.{scrambled, guardMode, descrambled};
+ghost use Rattle.scrambler.specs.Windows.{mixedAtOnce, differAtOnce, inversions, countOver};
 
 // A count of bits, never to be taken for one of unit intervals.
 pub struct BitCount(pub u8);
@@ -44,18 +44,14 @@ pub fn fresh_register() -> Register
     }
 }
 
-// The greatest count that number 4 lets pass with so many line bits.
-fn count_limit(mode: u8, held: u8) -> u8
-    ensures { λ r. ⌜ r ≡ cond (guarded mode && leb (capacity mode) held) 33 0 ⌝ }
+// The greatest count that number 4 lets pass with so many line bits, in a mode with the guard.
+fn count_limit(held: u8) -> u8
+    ensures { λ r. ⌜ r ≡ cond (leb 12 held) 33 0 ⌝ }
 {
-    if line::has_guard(mode) & (line::capacity_of(mode) <= held) {
-        33
-    } else {
-        0
-    }
+    if held < 12 { 0 } else { 33 }
 }
 
-// What number 4 asks of a register.
+// What number 4 asks of a register. Each way has all of its test, so that the compiler joins nothing across them: 1 ns of a single call.
 pub fn register_ok(mode: u8, h: Register) -> bool
     ensures { λ r. ⌜ r ≡ registerOk mode h ⌝ }
 {
@@ -63,7 +59,10 @@ pub fn register_ok(mode: u8, h: Register) -> bool
     let bits = h.bits;
     let count = h.count.0;
     if held <= line::capacity_of(mode) {
-        (bits >> (held as u32) == 0) & (count <= count_limit(mode, held))
+        if line::has_guard(mode) {
+            return (bits >> (held as u32) == 0) & (count <= count_limit(held));
+        }
+        (bits >> (held as u32) == 0) & (count == 0)
     } else {
         false
     }
@@ -245,52 +244,35 @@ pub fn descramble_next(mode: u8, role: u8, n: u32, line: u8) -> Descrambled
 
 // What the guard does to a group: the bits that it inverts, the first in time highest, and its count after them.
 struct Guarded {
-    held: u8,
     count: u8,
     inverted: u8,
 }
 
-// The count after a line bit; `differs` is 1 if the bit differs from all three.
-fn next_count(held: u8, count: u8, differs: u8) -> u8
-    ensures { λ r. ⌜ r ≡ counted 6 held count differs ⌝ }
+// How many of w data bits are unsettled.
+fn unsettled_bits(w: u8, full: u8, held: u8) -> u8
+    ensures { λ r. ⌜ r ≡ min (full - held) w ⌝ }
 {
-    if held < 12 {
-        return 0;
-    }
-    if 33 <= count {
-        return 0;
-    }
-    if differs == 1 { 0 } else { count + 1 }
+    let missing = if full <= held { 0 } else { full - held };
+    if w <= missing { w } else { missing }
 }
 
-// 1 if the next line bit is inverted.
-fn inverts(held: u8, count: u8) -> u8
-    ensures { λ r. ⌜ r ≡ inversion 6 held count ⌝ }
-    ensures { λ r. ⌜ r ≤ 1 ⌝ }
+// A group without its first u bits.
+fn without_first(w: u8, u: u8, x: u8) -> u8
+    requires { ⌜ (u ≤ w) × (w ≤ 4) × (x < 2 ^ w) ⌝ }
+    ensures { λ r. ⌜ r ≡ x % 2 ^ (w - u) ⌝ }
 {
-    if held < 12 {
-        return 0;
+    if u == 0 {
+        return x;
     }
-    if 33 <= count { 1 } else { 0 }
-}
-
-// How many line bits are held after one more.
-fn next_held(held: u8) -> u8
-    ensures { λ r. ⌜ r ≡ min (held + 1) (capacity 6) ⌝ }
-{
-    if held < 12 { held + 1 } else { 12 }
-}
-
-// One bit further.
-fn guard_bit(g: Guarded, differs: u8) -> Guarded
-    requires { ⌜ g .inverted < 8 ⌝ }
-    ensures { λ r. ⌜ (r .held ≡ min (g .held + 1) (capacity 6)) × (r .count ≡ counted 6 (g .held) (g .count) differs) × (r .inverted ≡ 2 * g .inverted + inversion 6 (g .held) (g .count)) ⌝ }
-    ensures { λ r. ⌜ r .inverted ≤ 2 * g .inverted + 1 ⌝ }
-{
-    Guarded {
-        held: next_held(g.held),
-        count: next_count(g.held, g.count, differs),
-        inverted: 2 * g.inverted + inverts(g.held, g.count),
+    let left = w - u;
+    if left == 0 {
+        0
+    } else if left == 1 {
+        x % 2
+    } else if left == 2 {
+        x % 4
+    } else {
+        x % 8
     }
 }
 
@@ -304,46 +286,66 @@ fn differing(w: u8, n: u32, y: u8) -> u32
     (x ^ (n >> (8 - k))) & (x ^ (n >> (9 - k))) & (x ^ (n >> (12 - k)))
 }
 
-// The guard along a group, bit by bit.
-fn guard_bits(w: u8, g: Guarded, d: u32) -> Guarded
-    requires { ⌜ (2 ≤ w) × (w ≤ 3) × (g .inverted ≡ 0) ⌝ }
-    ensures { λ r. ⌜ (r .inverted ≡ value (inversions 6 (g .held) (g .count) (bits w d))) × (r .count ≡ countOver 6 (g .held) (g .count) (bits w d)) ⌝ }
-    ensures { λ r. ⌜ r .inverted < 8 ⌝ }
+// The bit of a group that is inverted, or 0: the one where the count comes to 33, if none before it differs.
+fn inverted_bit(place: u8, d: u8) -> u8
+    requires { ⌜ place ≤ 15 ⌝ }
+    ensures { λ r. ⌜ r ≡ cond (ltb d (2 * place)) place 0 ⌝ }
+    ensures { λ r. ⌜ r ≤ place ⌝ }
 {
-    if w == 3 {
-        let a = guard_bit(g, (d / 4 % 2) as u8);
-        let b = guard_bit(a, (d / 2 % 2) as u8);
-        return guard_bit(b, (d % 2) as u8);
-    }
-    let b = guard_bit(g, (d / 2 % 2) as u8);
-    guard_bit(b, (d % 2) as u8)
+    if d < 2 * place { place } else { 0 }
 }
 
-// What the guard does to the line bits y of a group after the line bits n. Up to a count of 30 nothing is inverted in a group: that is said
-// ahead, so that no line bit waits for the count.
+// The count after a group: how many bits follow the last that sets it to zero (4624 holds these numbers, two bits each), or, if none does,
+// all bits and those before.
+fn count_after(last: u8, zeros: u8) -> u8
+    requires { ⌜ zeros < 16 ⌝ }
+    ensures { λ r. ⌜ r ≡ cond (eqb zeros 0) last (4624 / 2 ^ (2 * zeros) % 4) ⌝ }
+{
+    if zeros == 0 {
+        return last;
+    }
+    let numbers: u32 = 4624;
+    ((numbers >> ((2 * zeros) as u32)) % 4) as u8
+}
+
+// The guard along the last bits of a group, which are those after 12 line bits: the bits d differ. All are looked at together, with nothing to
+// branch on, so that the callers can have it in line.
+fn guard_over(left: u8, count: u8, d: u8) -> Guarded
+    requires { ⌜ (left ≤ 3) × (count ≤ 33) × (d < 2 ^ left) ⌝ }
+    ensures { λ r. ⌜ (r .inverted ≡ value (inversions 6 12 count (bits left d))) × (r .count ≡ countOver 6 12 count (bits left d)) ⌝ }
+    ensures { λ r. ⌜ r .inverted < 8 ⌝ }
+{
+    let last = count + left;
+    let third: u64 = 4;
+    let place = (third >> ((36 - last) as u32)) as u8;
+    let inverted = inverted_bit(place, d);
+    Guarded {
+        count: count_after(last, d | inverted),
+        inverted,
+    }
+}
+
+// The count that the guard starts from: none before 12 line bits are held, and no more than 33.
+fn first_count(unsettled: u8, count: u8) -> u8
+    ensures { λ r. ⌜ r ≡ cond (ltb 0 unsettled) 0 (min count 33) ⌝ }
+    ensures { λ r. ⌜ r ≤ 33 ⌝ }
+{
+    if 0 < unsettled {
+        return 0;
+    }
+    if count <= 33 { count } else { 33 }
+}
+
+// What the guard does to the line bits y of a group after the line bits n.
 fn guard(mode: u8, held: u8, count: u8, n: u32, y: u8) -> Guarded
     requires { ⌜ guarded mode ≡ true ⌝ }
     ensures { λ r. ⌜ (r .inverted ≡ value (inversions mode held count (bits (width mode) (differAtOnce (width mode) n y)))) × (r .count ≡ countOver mode held count (bits (width mode) (differAtOnce (width mode) n y))) ⌝ }
     ensures { λ r. ⌜ r .inverted < 8 ⌝ }
 {
     let w = line::width_of(mode);
-    let g = guard_bits(
-        w,
-        Guarded {
-            held,
-            count,
-            inverted: 0,
-        },
-        differing(w, n, y),
-    );
-    if count <= 30 {
-        return Guarded {
-            held: g.held,
-            count: g.count,
-            inverted: 0,
-        };
-    }
-    g
+    let u = unsettled_bits(w, 12, held);
+    let d = low_bits(line::column_of(mode), differing(w, n, y));
+    guard_over(w - u, first_count(u, count), without_first(w, u, d))
 }
 
 // The same for any mode: without the guard nothing is inverted and nothing counted.
@@ -355,7 +357,6 @@ fn guard_of(mode: u8, held: u8, count: u8, n: u32, y: u8) -> Guarded
         return guard(mode, held, count, n, y);
     }
     Guarded {
-        held,
         count: 0,
         inverted: 0,
     }
@@ -408,34 +409,6 @@ pub fn scramble_group(mode: u8, role: u8, n: u32, held: u8, count: u8, plain: u8
     }
 }
 
-// How many of w data bits are unsettled.
-fn unsettled_bits(w: u8, full: u8, held: u8) -> u8
-    ensures { λ r. ⌜ r ≡ min (full - held) w ⌝ }
-{
-    let missing = if full <= held { 0 } else { full - held };
-    if w <= missing { w } else { missing }
-}
-
-// A group without its first u bits.
-fn without_first(w: u8, u: u8, x: u8) -> u8
-    requires { ⌜ (u ≤ w) × (w ≤ 4) × (x < 2 ^ w) ⌝ }
-    ensures { λ r. ⌜ r ≡ x % 2 ^ (w - u) ⌝ }
-{
-    if u == 0 {
-        return x;
-    }
-    let left = w - u;
-    if left == 0 {
-        0
-    } else if left == 1 {
-        x % 2
-    } else if left == 2 {
-        x % 4
-    } else {
-        x % 8
-    }
-}
-
 // The data bits of w line bits, likewise.
 pub fn descramble_group(mode: u8, role: u8, n: u32, held: u8, count: u8, line: u8) -> Descrambled
     ensures { λ r. ⌜ r ≡ descrambled mode role (register n held count) line ⌝ }
@@ -476,15 +449,63 @@ fn counted_bits(mode: u8, role: u8, n: u32, count: u8, line: u8) -> Descrambled
     }
 }
 
-// The same with a way of its own for each mode with the guard.
-pub fn descramble_counted(mode: u8, role: u8, n: u32, count: u8, line: u8) -> Descrambled
-    ensures { λ r. ⌜ r ≡ descrambled mode role (register n (capacity mode) count) line ⌝ }
+// The mode that one above 4 counts as.
+fn guard_mode(mode: u8) -> u8
+    ensures { λ r. ⌜ r ≡ guardMode mode ⌝ }
 {
-    if mode == 5 {
-        return counted_bits(5, role, n, count, line);
+    if mode <= 5 { 5 } else { 6 }
+}
+
+// The data bits of w line bits after a full register, with the guard. It is small enough to be put in line in its callers, since there is
+// nothing in it to branch on.
+pub fn descramble_counted(mode: u8, role: u8, n: u32, count: u8, line: u8) -> Descrambled
+    ensures { λ r. ⌜ r ≡ descrambled (guardMode mode) role (register n (capacity (guardMode mode)) count) line ⌝ }
+{
+    counted_bits(guard_mode(mode), role, n, count, line)
+}
+
+// The line bits of w data bits, likewise.
+fn counted_line(mode: u8, role: u8, n: u32, count: u8, plain: u8) -> Scrambled
+    ensures { λ r. ⌜ r ≡ scrambled mode role (register n (capacity mode) count) plain ⌝ }
+{
+    let full = line::capacity_of(mode);
+    let column = line::column_of(mode);
+    let all = mixed(column, role, n, plain);
+    let guarded = guard_of(mode, full, count, n, all);
+    let line = all ^ guarded.inverted;
+    let before = Register {
+        bits: n,
+        held: BitCount(full),
+        count: BitCount(count),
+    };
+    Scrambled {
+        line,
+        next: push_counted(mode, before, line, guarded.count),
     }
-    if mode == 6 {
-        return counted_bits(6, role, n, count, line);
+}
+
+pub fn scramble_counted(mode: u8, role: u8, n: u32, count: u8, plain: u8) -> Scrambled
+    ensures { λ r. ⌜ r ≡ scrambled (guardMode mode) role (register n (capacity (guardMode mode)) count) plain ⌝ }
+{
+    counted_line(guard_mode(mode), role, n, count, plain)
+}
+
+// The data bits of w line bits after any register, in the mode of the column. It has one caller, so that it is put in line there.
+pub fn descramble_plain(mode: u8, role: u8, n: u32, held: u8, line: u8) -> Descrambled
+    ensures { λ r. ⌜ r ≡ descrambled (column mode) role (register n held 0) line ⌝ }
+{
+    let c = line::column_of(mode);
+    let w = width_in(c);
+    let u = unsettled_bits(w, capacity_in(c), held);
+    let all = mixed(c, role, n, line);
+    let before = Register {
+        bits: n,
+        held: BitCount(held),
+        count: BitCount(0),
+    };
+    Descrambled {
+        plain: without_first(w, u, all),
+        unsettled: BitCount(u),
+        next: push_group(c, before, line),
     }
-    counted_bits(mode, role, n, count, line)
 }

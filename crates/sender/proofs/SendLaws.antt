@@ -1,7 +1,7 @@
 -- Sending groups: one turn of the point writer's loop, and what a lent part becomes. Assumes nothing.
-use Prim.Native.Nat.{ℕ, zero, suc, _+_, _*_, _-_, _%_, _<_, _≤_}
+use Prim.Native.Nat.{ℕ, zero, suc, _+_, _*_, _-_, _%_, _<_, _≤_, min}
 use mathlib.Core.Path.{_≡_, refl, sym, _∙_, ap, ap₂}
-use mathlib.Core.Bool.{Bool, true, false, not, false≢true}
+use mathlib.Core.Bool.{false}
 use mathlib.Core.List.{List, [], _∷_}
 use native.Mathlib.Numerals.{sub-one, towards-suc}
 use native.Mathlib.Nat.{suc-mul, lt-irrefl, add-sub-cancel-left}
@@ -11,16 +11,22 @@ use lib.IntN.{ℤ, pos}
 use lib.ListN.{length, getD, take, drop, set, length-set, length-take, length-drop}
 use lib.Seq.{drop-drop, sets}
 use Rattle.line.specs.Table.{every, Tabled}
-use Rattle.line.specs.Mode.{width, face}
+use Rattle.line.specs.Mode.{column, width, face, guarded, capacity}
 use Rattle.coding.specs.Code.{coded}
+use Rattle.coding.proofs.CodeLaws.{coded-column}
 use Rattle.line.specs.declared.Point.{Point}
 use Rattle.line.specs.Point.{at, sentPoint}
 use Rattle.line.proofs.PointLaws.{sent-round}
 use Rattle.line.proofs.TableLaws.{and-left, and-right, every-take, every-drop}
+use Rattle.scrambler.specs.declared.Register.{Register}
 use Rattle.scrambler.specs.declared.Scrambled.{Scrambled}
 use Rattle.scrambler.specs.Bits.{isBit, bits, value}
-use Rattle.scrambler.specs.Group.{scrambled}
+use Rattle.scrambler.specs.Register.{register, counting, countAfter, push, pushes}
+use Rattle.scrambler.specs.Scramble.{scramble}
+use Rattle.scrambler.specs.Group.{scrambled, guardMode}
 use Rattle.scrambler.proofs.BitLaws.{bits-value}
+use Rattle.scrambler.proofs.RegisterLaws.{same-register}
+use Rattle.scrambler.proofs.GroupLaws.{plain-column}
 use Rattle.training.specs.Coder.{numbers}
 use Rattle.training.proofs.CoderLaws.{code-law}
 use Rattle.sender.specs.declared.Sender.{Sender}
@@ -59,11 +65,6 @@ value-4 (a ∷ b ∷ c ∷ d ∷ x ∷ xs) e = absurd (omega arith)
 
 -- A GROUP
 
--- the code's test for the guard
-pub not-true : (g r : Bool) → r ≡ g → not r ≡ true → g ≡ false
-not-true g true e f = absurd (false≢true f)
-not-true g false e f = sym e
-
 pub group-law : (s : Sender) (plain r : ℕ) (d : Scrambled) → d ≡ scrambled (s .mode) (s .role) (s .line) plain
     → r ≡ coded (s .mode) (face (s .mode) (s .reference)) (d .line)
     → _≡_ {A = Sender} (record { mode = s .mode; role = s .role; reference = r; line = d .next }) (afterGroup s (bits (width (s .mode)) plain))
@@ -77,6 +78,64 @@ group-mode s g = refl
 pub group-role : (s : Sender) (g : List ℕ) → afterGroup s g .role ≡ s .role
 unfolding afterGroup
 group-role s g = refl
+
+-- a full register stays full
+stays-full : (m : ℕ) (h : Register) (bs : List ℕ) → h .held .0 ≡ capacity m → pushes m h bs .held .0 ≡ capacity m
+unfolding push
+stays-full m h [] e = e
+stays-full m h (b ∷ bs) e = stays-full m (push m h b) bs (omega arith)
+
+-- WITH THE GUARD
+
+pub counted-group : (s : Sender) (plain r : ℕ) (d : Scrambled) → guardMode (s .mode) ≡ s .mode → s .line .held .0 ≡ capacity (s .mode)
+    → d ≡ scrambled (guardMode (s .mode)) (s .role) (register (s .line .bits) (capacity (guardMode (s .mode))) (s .line .count .0)) plain
+    → r ≡ coded (s .mode) (face (s .mode) (s .reference)) (d .line)
+    → _≡_ {A = Sender} (record { mode = s .mode; role = s .role; reference = r; line = d .next }) (afterGroup s (bits (width (s .mode)) plain)) × (d .next .held .0 ≡ capacity (s .mode))
+unfolding scrambled
+counted-group s plain r d em eh ed er =
+    let h : register (s .line .bits) (capacity (s .mode)) (s .line .count .0) ≡ s .line = same-register _ (s .line) refl (sym eh) refl in
+    let e : d ≡ scrambled (s .mode) (s .role) (s .line) plain =
+    ed ∙ ap (λ (k : ℕ). scrambled k (s .role) (register (s .line .bits) (capacity k) (s .line .count .0)) plain) em ∙ ap (λ (k : Register). scrambled (s .mode) (s .role) k plain) h in
+    (group-law s plain r d e er, ap (λ (k : Scrambled). k .next .held .0) e ∙ stays-full (s .mode) (s .line) (scramble (s .mode) (s .role) (s .line) (bits (width (s .mode)) plain)) eh)
+
+-- WITHOUT THE GUARD
+
+-- nothing is counted
+stays-zero : (m : ℕ) (h : Register) (bs : List ℕ) → guarded m ≡ false → h .count .0 ≡ 0 → pushes m h bs .count .0 ≡ 0
+unfolding push countAfter counting
+stays-zero m h [] g e = e
+stays-zero m h (b ∷ bs) g e = stays-zero m (push m h b) bs g (rw g refl)
+
+-- a sender with another reference and register; with the bits of a full register, which are all that goes round
+abbrev pub withLine : Sender → ℕ → Register → Sender
+withLine s x h = record { mode = s .mode; role = s .role; reference = x; line = h }
+
+abbrev pub carrying : Sender → ℕ → ℕ → Sender
+carrying s x n = withLine s x (register n (s .line .held .0) 0)
+
+module _ (s : Sender) (f : s .line ≡ register (s .line .bits) (capacity (s .mode)) 0) where
+  full : s .line .held .0 ≡ capacity (s .mode)
+  full = ap (λ (h : Register). h .held .0) f
+
+  pub carried : carrying s (s .reference) (s .line .bits) ≡ s
+  carried = ap (withLine s (s .reference)) (same-register _ (s .line) refl refl (sym (ap (λ (h : Register). h .count .0) f)))
+
+  pub plain-law : (x n plain r : ℕ) (h : Register) (d : Scrambled) → guarded (s .mode) ≡ false → h ≡ register n (s .line .held .0) 0
+      → d ≡ scrambled (column (s .mode)) (s .role) h plain
+      → r ≡ coded (min (s .mode) 4) (face (min (s .mode) 4) x) (d .line)
+      → carrying s r (d .next .bits) ≡ afterGroup (carrying s x n) (bits (width (s .mode)) plain)
+  unfolding scrambled
+  plain-law x n plain r h d p eh ed er =
+      let k : Register = register n (s .line .held .0) 0 in
+      let c = plain-column (s .mode) p in
+      let e : d ≡ scrambled (s .mode) (s .role) k plain =
+      ed ∙ ap₂ (λ (i : ℕ) (j : Register). scrambled i (s .role) j plain) c eh in
+      let l : List ℕ = scramble (s .mode) (s .role) k (bits (width (s .mode)) plain) in
+      let next : register (d .next .bits) (s .line .held .0) 0 ≡ d .next =
+      same-register _ (d .next) refl (full ∙ sym (stays-full (s .mode) k l full) ∙ ap (λ (i : Scrambled). i .next .held .0) (sym e)) (sym (stays-zero (s .mode) k l p refl) ∙ ap (λ (i : Scrambled). i .next .count .0) (sym e)) in
+      ap (withLine s r) next ∙ group-law (carrying s x n) plain r d e (er ∙ coded-column (s .mode) (s .mode) x (d .line) (sym c))
+
+-- A LIST OF GROUPS
 
 -- the bits of the number of a group that is whole
 pub whole-bits : (w at n : ℕ) (ds : List ℕ) → T (every isBit ds) → at + w ≤ length ds → n ≡ value (take (at + w - at) (drop at ds)) → bits w n ≡ take (at + w - at) (drop at ds)
@@ -119,9 +178,17 @@ pub record Left (m w : ℕ) (ds : List ℕ) (t₀ : Sender) (n : ℕ) (out₀ : 
   pub sender : afterGroups t (groups w left (drop at ds)) ≡ afterGroups t₀ (groups w n ds)
   pub written : sets out k (numbers m (sentStates t (groups w left (drop at ds)))) ≡ sets out₀ 0 (numbers m (sentStates t₀ (groups w n ds)))
 
-pub left-all : (m w : ℕ) (ds : List ℕ) (t : Sender) (n : ℕ) (out : List ℤ) → t .mode ≡ m → n * w ≤ length ds → 2 * n ≤ length out → Left m w ds t n out t out 0 0 n
-left-all m w ds t n out e h k =
-    record { mode = e; bits-left = omega arith; room-left = omega arith; same-length = refl; sender = refl; written = refl }
+pub left-all : (m w : ℕ) (ds : List ℕ) (t₀ t : Sender) (n : ℕ) (out : List ℤ) → t ≡ t₀ → t .mode ≡ m → n * w ≤ length ds → 2 * n ≤ length out
+    → Left m w ds t₀ n out t out 0 0 n
+left-all m w ds t₀ t n out q e h k =
+    record {
+      mode = e;
+      bits-left = omega arith;
+      room-left = omega arith;
+      same-length = refl;
+      sender = ap (λ (x : Sender). afterGroups x (groups w n ds)) q;
+      written = ap (λ (x : Sender). sets out 0 (numbers m (sentStates x (groups w n ds)))) q;
+    }
 
 module _ (m w : ℕ) (ds : List ℕ) (t₀ : Sender) (n : ℕ) (out₀ : List ℤ) (t : Sender) (out : List ℤ) (at k left : ℕ) (i : Left m w ds t₀ n out₀ t out at k left) where
   pub group-there : 0 < left → at + w ≤ length ds

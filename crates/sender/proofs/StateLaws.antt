@@ -1,19 +1,21 @@
 -- What opening and sending hand back passes numbers 1, 2 and 4. Assumes nothing.
-use Prim.Native.Nat.{ℕ, zero, suc, _+_, _*_, _/_, _%_}
+use Prim.Native.Nat.{ℕ, zero, suc, _+_, _*_, _/_, _%_, _<_, _≤_}
 use mathlib.Core.Path.{_≡_, refl, sym, _∙_, ap, subst}
-use mathlib.Core.Bool.{Bool, _&&_}
+use mathlib.Core.Bool.{Bool, true, false, _&&_, cond}
 use mathlib.Core.List.{List, [], _∷_}
 use native.Mathlib.Nat.{div-add-mod', add-zero}
+use native.Mathlib.Decide.{decLe}
 use native.Mathlib.Omega.{arith}
-use borrow.Author.Tests.{eq-eqb}
-use lib.Dec.{T, eqb, eqb→eq}
+use borrow.Author.Tests.{eq-eqb, le-leb, lt-leb}
+use lib.Dec.{T, eqb, leb, ltb, eqb→eq, leb→le, ltb→lt}
 use lib.ListN.{length, drop, length-take, length-drop}
 use Rattle.line.specs.Table.{every}
-use Rattle.line.specs.Mode.{isMode, isRole, isState, width, capacity}
+use Rattle.line.specs.Mode.{isMode, isRole, isState, width, guarded, capacity}
 use Rattle.line.proofs.TableLaws.{and-left, and-right, and-intro, every-take, every-drop}
 use Rattle.scrambler.specs.Bits.{isBit}
-use Rattle.scrambler.specs.Register.{registerOk}
-use Rattle.scrambler.proofs.RegisterLaws.{ok, passes}
+use Rattle.scrambler.specs.Group.{guardMode}
+use Rattle.scrambler.specs.Register.{register, counting, registerOk}
+use Rattle.scrambler.proofs.RegisterLaws.{same-register, ok, passes}
 use Rattle.training.specs.declared.Coder.{Coder}
 use Rattle.training.proofs.CoderLaws.{Ready as CanSend, ready-coding}
 use Rattle.training.proofs.TrainingLaws.{ready-trained}
@@ -39,6 +41,26 @@ can-send s t =
       full = eqb→eq _ _ (and-left full (registerOk (s .mode) (s .line)) u);
       fit = ok (s .mode) (s .line) (and-right full (registerOk (s .mode) (s .line)) u);
     }
+
+-- so that without the guard the register is full and nothing is counted
+pub full-line : (s : Sender) → T (fieldsOk s) → guarded (s .mode) ≡ false → s .line ≡ register (s .line .bits) (capacity (s .mode)) 0
+unfolding counting
+full-line s t g =
+    let k = can-send s t in
+    let z : s .line .count .0 ≤ 0 = subst (λ (b : Bool). s .line .count .0 ≤ cond (b && leb (capacity (s .mode)) (s .line .held .0)) 33 0) g (k .fit .counts) in
+    same-register (s .line) _ refl (k .full) (omega arith)
+
+-- and with it a mode is the one that it counts as
+pub counted-mode : (m : ℕ) → T (isMode m) → guarded m ≡ true → guardMode m ≡ m
+unfolding isMode guarded
+counted-mode m t g =
+    let l : m ≤ 6 = leb→le m 6 (and-right (leb 1 m) (leb m 6) t) in
+    let h : 4 < m = ltb→lt 4 m (subst T (sym g) tt) in
+    go (decLe m 5) l h
+  where
+    go : Dec (m ≤ 5) → m ≤ 6 → 4 < m → guardMode m ≡ m
+    go (yes k) l h = rw (le-leb m 5 k) (omega arith)
+    go (no k) l h = rw (lt-leb m 5 (omega (arith, k))) (omega (arith, k))
 
 fields-pass : (m role : ℕ) (c : Coder) → CanSend m c → T (fieldsOk (senderOf m role c))
 unfolding fieldsOk

@@ -6,8 +6,10 @@ ghost use lib.ListN.{length as size};
 ghost use lib.Seq.{sets};
 ghost use Rattle.line.specs.Table.{every};
 ghost use mathlib.Core.Bool.{false};
-ghost use Rattle.line.specs.Mode.{guarded, width};
+ghost use Rattle.line.specs.Mode.{guarded, width, capacity};
 ghost use Rattle.scrambler.specs.Bits.{isBit, bits, value};
+ghost use Rattle.scrambler.specs.Register.{register};
+ghost use Rattle.scrambler.specs.Group.{guardMode};
 ghost use Rattle.training.specs.Training.{train, start, intervals, trained};
 ghost use Rattle.sender.specs.Sender.{fieldsOk, stateRefusal, hasRoom, dataRefusal, sendRefusal, afterGroup, afterBits, bitNumbers, sendAnswer, sendNumbers, Told};
 ghost use Rattle.sender.specs.Open.{lengthOk, openRefusal, opened, trainingNumbers, openAnswer, openNumbers};
@@ -104,47 +106,78 @@ fn group_value(group: &[u8]) -> u8
     2 * three + group[3]
 }
 
-// The sender after a group, where there is no guard. It does what `training::code_group` does: with two callers that one would stay a
-// call, which in modes 1, 3 and 4 took longer than all else that is done for a point.
-fn send_plain(s: Sender, plain: u8) -> Sender
-    requires { ⌜ guarded (s .mode) ≡ false ⌝ }
-    ensures { λ r. ⌜ r ≡ afterGroup s (bits (width (s .mode)) plain) ⌝ }
+// A register of so many line bits, with nothing counted.
+fn full_register(held: u8, bits: u32) -> scrambler::Register
+    ensures { λ r. ⌜ r ≡ register bits held 0 ⌝ }
 {
-    let register = s.line;
-    let g = scrambler::scramble_plain(s.mode, s.role, register, plain);
-    let line = g.next;
+    scrambler::Register {
+        bits,
+        held: scrambler::BitCount(held),
+        count: scrambler::BitCount(0),
+    }
+}
+
+// The point writer without the guard: the points of whole groups, from the front of `out`. The register stays full and nothing is counted,
+// so that only the reference and the register's bits go round.
+fn write_points(s: Sender, input: &[u8], out: &mut [i16]) -> Sender
+    requires { ⌜ (guarded (s .mode) ≡ false) × (s .line ≡ register (s .line .bits) (capacity (s .mode)) 0)
+        × T (every isBit (now input)) × (2 * (size (now input) / width (s .mode)) ≤ size (now out)) ⌝ }
+    ensures { λ r. ⌜ (r ≡ afterBits s (now (input .entry))) × (now (out .exit) ≡ sets (now (out .entry)) 0 (bitNumbers s (now (input .entry)))) ⌝ }
+{
+    let mode = s.mode;
+    let w = line::width_of(mode) as usize;
+    let points = line::constellation(mode);
+    let mut reference = s.reference;
+    let mut bits = s.line.bits;
+    let mut at = 0;
+    let mut k = 0;
+    let mut left = input.len() / w;
+    while left > 0 {
+        let e = at + w;
+        let h = full_register(s.line.held.0, bits);
+        let g = scrambler::scramble_plain(mode, s.role, h, group_value(&input[at..e]));
+        reference = coding::coded_in(mode, reference, g.line);
+        bits = g.next.bits;
+        let state = (reference as usize) % 16;
+        let p = points[state];
+        let re = p.re;
+        let im = p.im;
+        out[k] = re;
+        out[k + 1] = im;
+        at = e;
+        k += 2;
+        left -= 1;
+    }
+    let line = full_register(s.line.held.0, bits);
     Sender {
-        mode: s.mode,
+        mode,
         role: s.role,
-        reference: coding::next_state(s.mode, s.reference, g.line),
+        reference,
         line,
     }
 }
 
-// The sender after a group.
-fn send_group(s: Sender, plain: u8) -> Sender
+// The sender after a group, with the guard and a full register.
+fn send_counted(s: Sender, plain: u8) -> Sender
+    requires { ⌜ (guardMode (s .mode) ≡ s .mode) × (s .line .held .0 ≡ capacity (s .mode)) ⌝ }
     ensures { λ r. ⌜ r ≡ afterGroup s (bits (width (s .mode)) plain) ⌝ }
+    ensures { λ r. ⌜ r .line .held .0 ≡ capacity (s .mode) ⌝ }
 {
-    if !line::has_guard(s.mode) {
-        return send_plain(s, plain);
-    }
     let h = s.line;
-    let d = scrambler::scramble_group(s.mode, s.role, h.bits, h.held.0, h.count.0, plain);
+    let d = scrambler::scramble_counted(s.mode, s.role, h.bits, h.count.0, plain);
+    let line = d.next;
     Sender {
         mode: s.mode,
         role: s.role,
         reference: coding::next_state(s.mode, s.reference, d.line),
-        line: scrambler::Register {
-            bits: d.next.bits,
-            held: scrambler::BitCount(d.next.held.0),
-            count: scrambler::BitCount(d.next.count.0),
-        },
+        line,
     }
 }
 
-// The point writer: the points of whole groups, from the front of `out`.
-fn write_points(s: Sender, input: &[u8], out: &mut [i16]) -> Sender
-    requires { ⌜ T (every isBit (now input)) × (2 * (size (now input) / width (s .mode)) ≤ size (now out)) ⌝ }
+// The same with the guard, for which all of the register goes round.
+fn write_counted(s: Sender, input: &[u8], out: &mut [i16]) -> Sender
+    requires { ⌜ (guardMode (s .mode) ≡ s .mode) × (s .line .held .0 ≡ capacity (s .mode))
+        × T (every isBit (now input)) × (2 * (size (now input) / width (s .mode)) ≤ size (now out)) ⌝ }
     ensures { λ r. ⌜ (r ≡ afterBits s (now (input .entry))) × (now (out .exit) ≡ sets (now (out .entry)) 0 (bitNumbers s (now (input .entry)))) ⌝ }
 {
     let mode = s.mode;
@@ -156,11 +189,11 @@ fn write_points(s: Sender, input: &[u8], out: &mut [i16]) -> Sender
     let mut left = input.len() / w;
     while left > 0 {
         let e = at + w;
-        t = send_group(t, group_value(&input[at..e]));
+        t = send_counted(t, group_value(&input[at..e]));
         let state = (t.reference as usize) % 16;
-        let p = points[state];
-        let re = p.re;
-        let im = p.im;
+        let point = points[state];
+        let re = point.re;
+        let im = point.im;
         out[k] = re;
         out[k + 1] = im;
         at = e;
@@ -179,6 +212,10 @@ pub fn send(s: Sender, input: &[u8], out: &mut [i16], offset: usize) -> Sent
     let n = send_refusal(s, input, out.len(), offset);
     if n != 0 {
         return Sent::Refused(n);
+    }
+    if line::has_guard(s.mode) {
+        let t = write_counted(s, input, &mut out[offset..]);
+        return Sent::Ready(t);
     }
     let t = write_points(s, input, &mut out[offset..]);
     Sent::Ready(t)
@@ -217,12 +254,14 @@ fn write_training(mode: u8, role: u8, length: u32, out: &mut [i16]) -> training:
         × (now (out .exit) ≡ sets (now (out .entry)) 0 (trainingNumbers mode role length)) ⌝ }
 {
     let t = training::middle_changes();
+    let points = line::constellation(mode);
     let n = training::interval_count(mode, length);
     let mut c = training::training_start(mode);
     let mut i = 0;
     while i < n {
         c = training::train_interval(mode, role, length, i, c, &t);
-        let point = line::sent_point(mode, c.reference);
+        let state = (c.reference as usize) % 16;
+        let point = points[state];
         let re = point.re;
         let im = point.im;
         out[2 * i] = re;

@@ -4,6 +4,7 @@ use borrow.Author.Needs.{needs, sfits-of}
 use mathlib.Core.Path.{refl}
 use native.Mathlib.Omega.{arith}
 use Prim.Native.Nat.{_-_}
+use Rattle.scrambler.proofs.GroupLaws.{next-law}
 use Rattle.bulk.specs.Block.{parts}
 use Rattle.bulk.specs.Hearing.{Hearing, settledAt}
 use Rattle.bulk.proofs.BlockLaws.{from-constellation, settled-start, settled-room, settled-again}
@@ -22,7 +23,7 @@ constellation-requires : tie.Need-constellation-requires Inv-loop μ-loop
 constellation-requires c κs = search needs
 
 loop-holds : tie.Need-loop-holds Inv-loop μ-loop
-loop-holds c = let s = c .before .before .before .before in settled-start (s .args .s) _ _ (s .args .from) (s .args .reference) (s .pre .2) (s .pre .3)
+loop-holds c = let s = c .before .before .before .before in settled-start (s .args .s) _ _ (s .args .from) (s .args .reference) (s .pre .3) (s .pre .4)
 
 mul-re : tie.Need-mul-re Inv-loop μ-loop
 mul-re c = search needs
@@ -52,7 +53,7 @@ sub-settled : tie.Need-sub-settled Inv-loop μ-loop
 sub-settled c = c .before .before .before .before .before .loop .inv .on
 
 settled-requires : tie.Need-settled-requires Inv-loop μ-loop
-settled-requires c κs = let s = c .before .before .before .before .before .before .before .before .before .before in settled-room (s .args .s) _ _ _ _ _ _ (omega (arith, s .good)) (s .pre .3 .free) (c .before .before .before .before .before .loop .inv)
+settled-requires c κs = let s = c .before .before .before .before .before .before .before .before .before .before in settled-room (s .args .s) _ _ _ _ _ _ (omega (arith, s .good)) (s .pre .4 .free) (c .before .before .before .before .before .loop .inv)
 
 same-length : tie.Need-same-length Inv-loop μ-loop
 same-length c = search needs
@@ -72,8 +73,8 @@ state-at-requires c κs = search needs
 group-by-requires : tie.Need-group-by-requires Inv-loop μ-loop
 group-by-requires c κs = search needs
 
-next-data-requires : tie.Need-next-data-requires Inv-loop μ-loop
-next-data-requires c κs = search needs
+descramble-next-requires : tie.Need-descramble-next-requires Inv-loop μ-loop
+descramble-next-requires c κs = search needs
 
 cast-state : tie.Need-cast-state Inv-loop μ-loop
 cast-state c = search needs
@@ -88,16 +89,16 @@ squared-distance-requires : tie.Need-squared-distance-requires Inv-loop μ-loop
 squared-distance-requires c κs = search needs
 
 slice-write-line : tie.Need-slice-write-line Inv-loop μ-loop
-slice-write-line c = omega (arith, c .before .before .before .before .before .before .before .before .before .before .loop .inv .as-long .line, c .before .before .before .before .before .before .before .before .before .before .before .before .before .before .before .pre .4 .line, c .before .before .before .before .before .before .before .before .before .loop-test .taken)
+slice-write-line c = omega (arith, c .before .before .before .before .before .before .before .before .before .before .loop .inv .as-long .line, c .before .before .before .before .before .before .before .before .before .before .before .before .before .before .before .pre .5 .line, c .before .before .before .before .before .before .before .before .before .loop-test .taken)
 
 slice-write-plain : tie.Need-slice-write-plain Inv-loop μ-loop
-slice-write-plain c = omega (arith, c .before .before .before .before .before .before .before .before .before .before .loop .inv .as-long .plain, c .before .before .before .before .before .before .before .before .before .before .before .before .before .before .before .pre .4 .plain, c .before .before .before .before .before .before .before .before .before .loop-test .taken)
+slice-write-plain c = omega (arith, c .before .before .before .before .before .before .before .before .before .before .loop .inv .as-long .plain, c .before .before .before .before .before .before .before .before .before .before .before .before .before .before .before .pre .5 .plain, c .before .before .before .before .before .before .before .before .before .loop-test .taken)
 
 mul-distance : tie.Need-mul-distance Inv-loop μ-loop
-mul-distance c = omega (arith, c .before .before .before .before .before .before .before .before .before .before .loop .inv .as-long .distance, c .before .before .before .before .before .before .before .before .before .before .before .before .before .before .before .pre .4 .distance, c .before .before .before .before .before .before .before .before .before .loop-test .taken, c .before .before .before .before .before .before .before .before .before .before .before .before .before .before .before .good)
+mul-distance c = omega (arith, c .before .before .before .before .before .before .before .before .before .before .loop .inv .as-long .distance, c .before .before .before .before .before .before .before .before .before .before .before .before .before .before .before .pre .5 .distance, c .before .before .before .before .before .before .before .before .before .loop-test .taken, c .before .before .before .before .before .before .before .before .before .before .before .before .before .before .before .good)
 
 slice-write-distance : tie.Need-slice-write-distance Inv-loop μ-loop
-slice-write-distance c = omega (arith, c .before .before .before .before .before .before .before .before .before .before .loop .inv .as-long .distance, c .before .before .before .before .before .before .before .before .before .before .before .before .before .before .before .pre .4 .distance, c .before .before .before .before .before .before .before .before .before .loop-test .taken)
+slice-write-distance c = omega (arith, c .before .before .before .before .before .before .before .before .before .before .loop .inv .as-long .distance, c .before .before .before .before .before .before .before .before .before .before .before .before .before .before .before .pre .5 .distance, c .before .before .before .before .before .before .before .before .before .loop-test .taken)
 
 add-k : tie.Need-add-k Inv-loop μ-loop
 add-k c = omega (arith, c .before .before .before .before .before .before .before .before .before .loop-test .taken, c .before .before .before .before .before .before .before .before .before .before .before .before .before .before .before .good)
@@ -113,14 +114,14 @@ loop-again c =
     let re = toZ-ofZ (sfits-of {w = w16} (c .before .before .before .before .before .before .before .before .re .given)) in
     let im = toZ-ofZ (sfits-of {w = w16} (c .before .before .before .before .before .before .before .im .given)) in
     settled-again (a .s) _ _ _ _ (a .from) (l .k) (l .x) (l .bits) (l .count) (l .inv) (c .before .before .before .before .before .before .before .before .before .loop-test .taken) _ _ re im _ _ _ _ _ _ _
-    (s .pre .0) (s .pre .1) (c .before .before .before .before .before .before .is-origin .ensures) (c .before .before .before .before .before .if1 .left) (c .before .before .before .before .state-at .ensures) (c .before .before .before .group-by .ensures) (c .before .before .next-data .ensures)
+    (s .pre .1) (s .pre .2) (c .before .before .before .before .before .before .is-origin .ensures) (c .before .before .before .before .before .if1 .left) (c .before .before .before .before .state-at .ensures) (c .before .before .before .group-by .ensures) (next-law (a .s .mode) (a .s .role) (l .bits) (l .count) _ _ (c .before .before .descramble-next .ensures) (s .pre .0))
     (from-constellation (a .s .mode) _ _ _ _ _ (sfits-of {w = w16} (c .before .before .before .before .before .before .before .before .re .given)) (sfits-of {w = w16} (c .before .before .before .before .before .before .before .im .given)) (c .before .before .before .before .before .before .before .before .before .before .before .constellation .ensures) (rw (re, im) at (c .squared-distance .ensures))) refl
 
 sub-settled-2 : tie.Need-sub-settled-2 Inv-loop μ-loop
 sub-settled-2 c = c .before .loop .inv .on
 
 settled-requires-2 : tie.Need-settled-requires-2 Inv-loop μ-loop
-settled-requires-2 c κs = let s = c .before .before .before .before .before .before in settled-room (s .args .s) _ _ _ _ _ _ (omega (arith, s .good)) (s .pre .3 .free) (c .before .loop .inv)
+settled-requires-2 c κs = let s = c .before .before .before .before .before .before in settled-room (s .args .s) _ _ _ _ _ _ (omega (arith, s .good)) (s .pre .4 .free) (c .before .loop .inv)
 
 same-length-4 : tie.Need-same-length-4 Inv-loop μ-loop
 same-length-4 c = search needs
@@ -158,7 +159,7 @@ hear-settled-spec =
     returns
     state-at-requires
     group-by-requires
-    next-data-requires
+    descramble-next-requires
     cast-state
     mul-sent
     array-copy-out-sent

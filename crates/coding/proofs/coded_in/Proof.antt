@@ -1,5 +1,5 @@
-use Rattle.line.proofs.ByMode.{column-low}
-use Rattle.coding.proofs.CodeLaws.{coded-1, coded-2, coded-3, coded-4}
+use native.Mathlib.Omega.{arith}
+use Rattle.coding.proofs.CodeLaws.{near-column, coded-1, coded-2, coded-3, coded-4}
 use borrow.Author.Needs.{needs}
 use Rattle.coding.proofs.coded_in.Statement.{statement}
 use Rattle.coding.proofs.coded_in.Tie as tie
@@ -14,7 +14,7 @@ add-result : tie.Need-add-result
 add-result c = search needs
 
 returns : tie.Need-returns
-returns c = search (column-low, coded-1)
+returns c = coded-1 _ _ _ _ (near-column (c .before .before .args .c)) _ (omega arith) (c .change4 .ensures .0)
 
 change16-requires : tie.Need-change16-requires
 change16-requires c κs = search needs
@@ -26,7 +26,7 @@ add-result-2 : tie.Need-add-result-2
 add-result-2 c = search needs
 
 returns-2 : tie.Need-returns-2
-returns-2 c = search (column-low, coded-3)
+returns-2 c = coded-3 _ _ _ _ (near-column (c .before .before .before .args .c)) _ (omega arith) (c .change16 .ensures .0)
 
 change8-requires : tie.Need-change8-requires
 change8-requires c κs = search needs
@@ -35,7 +35,7 @@ add-result-3 : tie.Need-add-result-3
 add-result-3 c = search needs
 
 returns-3 : tie.Need-returns-3
-returns-3 c = search (column-low, coded-2)
+returns-3 c = coded-2 _ _ _ _ (near-column (c .before .before .before .before .args .c)) _ (omega arith) (c .change8 .ensures .0)
 
 change16-requires-2 : tie.Need-change16-requires-2
 change16-requires-2 c κs = search needs
@@ -47,7 +47,7 @@ add-result-4 : tie.Need-add-result-4
 add-result-4 c = search needs
 
 returns-4 : tie.Need-returns-4
-returns-4 c = search (column-low, coded-4)
+returns-4 c = coded-4 _ _ _ _ (near-column (c .before .before .before .before .args .c)) _ (omega arith) (λ e. omega arith) (λ e. omega arith) (c .change162 .ensures .0)
 
 pub coded-in-spec : {M : Type 1} → statement M
 coded-in-spec =

@@ -1,5 +1,4 @@
 use mathlib.Core.Path.{_∙_}
-use Rattle.line.proofs.ByMode.{column-most}
 use Rattle.coding.proofs.CodeLaws.{coded-column}
 use borrow.Author.Needs.{needs}
 use Rattle.coding.proofs.next_state.Statement.{statement}
@@ -9,7 +8,7 @@ column-of-requires : tie.Need-column-of-requires
 column-of-requires c κs = search needs
 
 coded-in-requires : tie.Need-coded-in-requires
-coded-in-requires c κs = rw (c .column-of .ensures) (column-most (c .before .args .mode))
+coded-in-requires c κs = search needs
 
 returns : tie.Need-returns
 returns c = c .coded-in .ensures ∙ coded-column _ _ _ _ (c .before .column-of .ensures)

@@ -1,5 +1,5 @@
 use mathlib.Core.Path.{sym, _∙_}
-use Rattle.scrambler.proofs.GroupLaws.{next-law}
+use Rattle.scrambler.proofs.GroupLaws.{next-law, counted-law}
 use Rattle.receiver.proofs.OutcomeLaws.{full-register}
 use borrow.Author.Needs.{needs}
 use Rattle.receiver.proofs.descramble.Statement.{statement}
@@ -29,7 +29,9 @@ by-fields-requires-2 c κs = search needs
 returns-2 : tie.Need-returns-2
 returns-2 c =
     let b = c .before .before .before .before in
-    full-register _ _ _ _ _ _ (b .before .before .capacity-of .ensures) (b .if1 .left) (c .by-fields2 .ensures ∙ c .before .descramble-counted .ensures)
+    let a = b .before .before .before .args in
+    full-register _ _ _ _ _ _ (b .before .before .capacity-of .ensures) (b .if1 .left)
+    (counted-law (a .mode) (a .role) (a .h .bits) (a .h .count .0) (a .line) _ (sym (c .before .before .before .has-guard .ensures) ∙ c .before .before .if2 .taken) (c .by-fields2 .ensures ∙ c .before .descramble-counted .ensures))
 
 descramble-next-requires : tie.Need-descramble-next-requires
 descramble-next-requires c κs = search needs

@@ -1,20 +1,15 @@
-use mathlib.Core.Bool.{true, false}
-use Rattle.scrambler.proofs.RegisterLaws.{limit-law}
-use borrow.Author.Needs.{needs}
+use mathlib.Core.Path.{refl}
+use borrow.Author.Tests.{le-leb, lt-leb}
 use Rattle.scrambler.proofs.count_limit.Statement.{statement}
 use Rattle.scrambler.proofs.count_limit.Tie as tie
-
-has-guard-requires : tie.Need-has-guard-requires
-has-guard-requires c κs = search needs
-
-capacity-of-requires : tie.Need-capacity-of-requires
-capacity-of-requires c κs = search needs
+use Rattle.scrambler.proofs.count_limit.Reads as reads
+use Rattle.scrambler.proofs.count_limit.Lts as lts
 
 returns : tie.Need-returns
-returns c = limit-law _ _ _ _ true (c .before .before .has-guard .ensures) (c .before .capacity-of .ensures) (c .if1 .taken)
+returns c = rw (lt-leb 12 _ (c .if1 .taken)) refl
 
 returns-2 : tie.Need-returns-2
-returns-2 c = limit-law _ _ _ _ false (c .before .before .has-guard .ensures) (c .before .capacity-of .ensures) (c .if1 .left)
+returns-2 c = rw (le-leb 12 _ (c .if1 .left)) refl
 
 pub count-limit-spec : {M : Type 1} → statement M
-count-limit-spec = tie.close (tie.spec has-guard-requires capacity-of-requires returns returns-2)
+count-limit-spec = tie.close (tie.spec returns returns-2)

@@ -4,6 +4,10 @@ use Rattle.scrambler.proofs.GroupLaws.{plain-guard}
 use borrow.Author.Needs.{needs}
 use Rattle.scrambler.proofs.guard_of.Statement.{statement}
 use Rattle.scrambler.proofs.guard_of.Tie as tie
+use Rattle.scrambler.proofs.guard_of.Reads as reads
+use Rattle.scrambler.proofs.guard_of.Lts as lts
+use Rattle.line.proofs.has_guard.Reads as has-guard-reads
+use Rattle.scrambler.proofs.guard.Reads as guard-reads
 
 has-guard-requires : tie.Need-has-guard-requires
 has-guard-requires c κs = search needs

@@ -1,11 +1,9 @@
-use Prim.Native.Nat.{ℕ}
-use mathlib.Core.Path.{ap}
-use lib.ListN.{getD}
+use native.Mathlib.Omega.{arith}
 use mir.Facts.{toZ-ofZ}
 use Rattle.deciding.proofs.RingLaws.{index-law}
 use borrow.Author.Needs.{needs}
-use Rattle.deciding.proofs.state_in.Statement.{statement}
-use Rattle.deciding.proofs.state_in.Tie as tie
+use Rattle.deciding.proofs.ring_index.Statement.{statement}
+use Rattle.deciding.proofs.ring_index.Tie as tie
 
 size-requires : tie.Need-size-requires
 size-requires c κs = search needs
@@ -61,20 +59,19 @@ add-result-2 c = search needs
 add-result-3 : tie.Need-add-result-3
 add-result-3 c = search needs
 
-element-copy-out-result : tie.Need-element-copy-out-result
-element-copy-out-result c = search needs
-
 returns : tie.Need-returns
 returns c =
-    let a = c .before .before .before .before .before .before .before .before .before .before .before .before .before .args in
-    let f = c .before .before .before .before .before .before .before .before .before .before .before .before .before .fits in
-    ap (λ (i : ℕ). getD (a .ring .now) i 0) (index-law (a .c) (a .re) (a .im) _ _ _ _ _ _ _ _ _ _ _ _ (rw (toZ-ofZ (f .re)) at (c .before .before .before .before .before .before .before .before .before .before .before .before .size .ensures .0)) (rw (toZ-ofZ (f .im)) at (c .before .before .before .before .before .before .before .before .before .before .before .size2 .ensures .0))
-    (rw (toZ-ofZ (f .re)) at (c .before .before .before .before .before .before .before .before .before .before .below .ensures)) (rw (toZ-ofZ (f .im)) at (c .before .before .before .before .before .before .before .before .before .below2 .ensures)) (c .before .before .before .before .before .before .before .before .bit .ensures .0)
-    (rw (toZ-ofZ (f .im)) at (c .before .before .before .before .before .before .before .below3 .ensures)) (rw (toZ-ofZ (f .re)) at (c .before .before .before .before .before .before .below4 .ensures)) (c .before .before .before .before .before .bit2 .ensures .0)
-    (c .before .before .before .before .far .ensures) (c .before .before .before .bit3 .ensures .0) (c .before .before .far2 .ensures) (c .before .bit4 .ensures .0))
+    let a = c .before .before .before .before .before .before .before .before .before .before .before .before .args in
+    let f = c .before .before .before .before .before .before .before .before .before .before .before .before .fits in (
+      index-law (a .c) (a .re) (a .im) _ _ _ _ _ _ _ _ _ _ _ _ (rw (toZ-ofZ (f .re)) at (c .before .before .before .before .before .before .before .before .before .before .before .size .ensures .0)) (rw (toZ-ofZ (f .im)) at (c .before .before .before .before .before .before .before .before .before .before .size2 .ensures .0))
+          (rw (toZ-ofZ (f .re)) at (c .before .before .before .before .before .before .before .before .before .below .ensures)) (rw (toZ-ofZ (f .im)) at (c .before .before .before .before .before .before .before .before .below2 .ensures)) (c .before .before .before .before .before .before .before .bit .ensures .0)
+          (rw (toZ-ofZ (f .im)) at (c .before .before .before .before .before .before .below3 .ensures)) (rw (toZ-ofZ (f .re)) at (c .before .before .before .before .before .below4 .ensures)) (c .before .before .before .before .bit2 .ensures .0)
+          (c .before .before .before .far .ensures) (c .before .before .bit3 .ensures .0) (c .before .far2 .ensures) (c .bit4 .ensures .0),
+      omega (arith, c .before .before .before .before .before .before .before .bit .ensures .1, c .before .before .before .before .bit2 .ensures .1, c .before .before .bit3 .ensures .1, c .bit4 .ensures .1),
+    )
 
-pub state-in-spec : {M : Type 1} → statement M
-state-in-spec =
+pub ring-index-spec : {M : Type 1} → statement M
+ring-index-spec =
     tie.close
     (tie.spec
     size-requires
@@ -95,5 +92,4 @@ state-in-spec =
     bit-requires-4
     add-result-2
     add-result-3
-    element-copy-out-result
     returns)
