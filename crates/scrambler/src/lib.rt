@@ -240,14 +240,6 @@ pub fn descramble_next(mode: u8, role: u8, n: u32, line: u8) -> Descrambled
     }
 }
 
-// ---- with the guard
-
-// What the guard does to a group: the bits that it inverts, the first in time highest, and its count after them.
-struct Guarded {
-    count: u8,
-    inverted: u8,
-}
-
 // How many of w data bits are unsettled.
 fn unsettled_bits(w: u8, full: u8, held: u8) -> u8
     ensures { λ r. ⌜ r ≡ min (full - held) w ⌝ }
@@ -276,6 +268,34 @@ fn without_first(w: u8, u: u8, x: u8) -> u8
     }
 }
 
+// The data bits of w line bits after any register, in the mode of the column. It has one caller, so that it is put in line there.
+pub fn descramble_plain(mode: u8, role: u8, n: u32, held: u8, line: u8) -> Descrambled
+    ensures { λ r. ⌜ r ≡ descrambled (column mode) role (register n held 0) line ⌝ }
+{
+    let c = line::column_of(mode);
+    let w = width_in(c);
+    let u = unsettled_bits(w, capacity_in(c), held);
+    let all = mixed(c, role, n, line);
+    let before = Register {
+        bits: n,
+        held: BitCount(held),
+        count: BitCount(0),
+    };
+    Descrambled {
+        plain: without_first(w, u, all),
+        unsettled: BitCount(u),
+        next: push_group(c, before, line),
+    }
+}
+
+// ---- with the guard
+
+// What the guard does to a group: the bits that it inverts, the first in time highest, and its count after them.
+struct Guarded {
+    count: u8,
+    inverted: u8,
+}
+
 // The bits of a group that differ from all three line bits 8, 9 and 12 back, in its lowest bits.
 fn differing(w: u8, n: u32, y: u8) -> u32
     requires { ⌜ (2 ≤ w) × (w ≤ 4) ⌝ }
@@ -286,7 +306,7 @@ fn differing(w: u8, n: u32, y: u8) -> u32
     (x ^ (n >> (8 - k))) & (x ^ (n >> (9 - k))) & (x ^ (n >> (12 - k)))
 }
 
-// The bit of a group that is inverted, or 0: the one where the count comes to 33, if none before it differs.
+// The bit of a group that is inverted, or 0: the one at which the count is 33, if none before it differs.
 fn inverted_bit(place: u8, d: u8) -> u8
     requires { ⌜ place ≤ 15 ⌝ }
     ensures { λ r. ⌜ r ≡ cond (ltb d (2 * place)) place 0 ⌝ }
@@ -295,8 +315,8 @@ fn inverted_bit(place: u8, d: u8) -> u8
     if d < 2 * place { place } else { 0 }
 }
 
-// The count after a group: how many bits follow the last that sets it to zero (4624 holds these numbers, two bits each), or, if none does,
-// all bits and those before.
+// The count after a group: how many bits follow the last one that sets it to zero, or `last` if none does. 4624 holds these numbers for
+// the groups 0 to 7, two bits each.
 fn count_after(last: u8, zeros: u8) -> u8
     requires { ⌜ zeros < 16 ⌝ }
     ensures { λ r. ⌜ r ≡ cond (eqb zeros 0) last (4624 / 2 ^ (2 * zeros) % 4) ⌝ }
@@ -308,14 +328,15 @@ fn count_after(last: u8, zeros: u8) -> u8
     ((numbers >> ((2 * zeros) as u32)) % 4) as u8
 }
 
-// The guard along the last bits of a group, which are those after 12 line bits: the bits d differ. All are looked at together, with nothing to
-// branch on, so that the callers can have it in line.
+// The guard along the last bits of a group, those before which 12 line bits came; d are those that differ. All are taken together, with
+// nothing to branch on: so the functions for modes 5 and 6 are small enough to be put in line.
 fn guard_over(left: u8, count: u8, d: u8) -> Guarded
     requires { ⌜ (left ≤ 3) × (count ≤ 33) × (d < 2 ^ left) ⌝ }
     ensures { λ r. ⌜ (r .inverted ≡ value (inversions 6 12 count (bits left d))) × (r .count ≡ countOver 6 12 count (bits left d)) ⌝ }
     ensures { λ r. ⌜ r .inverted < 8 ⌝ }
 {
     let last = count + left;
+    // The count is 33 at the last bit if `last` is 34, at the third last, whose place is 4, if it is 36.
     let third: u64 = 4;
     let place = (third >> ((36 - last) as u32)) as u8;
     let inverted = inverted_bit(place, d);
@@ -464,7 +485,7 @@ pub fn descramble_counted(mode: u8, role: u8, n: u32, count: u8, line: u8) -> De
     counted_bits(guard_mode(mode), role, n, count, line)
 }
 
-// The line bits of w data bits, likewise.
+// The line bits of w data bits after a full register.
 fn counted_line(mode: u8, role: u8, n: u32, count: u8, plain: u8) -> Scrambled
     ensures { λ r. ⌜ r ≡ scrambled mode role (register n (capacity mode) count) plain ⌝ }
 {
@@ -484,28 +505,9 @@ fn counted_line(mode: u8, role: u8, n: u32, count: u8, plain: u8) -> Scrambled
     }
 }
 
+// The same with the guard, likewise small.
 pub fn scramble_counted(mode: u8, role: u8, n: u32, count: u8, plain: u8) -> Scrambled
     ensures { λ r. ⌜ r ≡ scrambled (guardMode mode) role (register n (capacity (guardMode mode)) count) plain ⌝ }
 {
     counted_line(guard_mode(mode), role, n, count, plain)
-}
-
-// The data bits of w line bits after any register, in the mode of the column. It has one caller, so that it is put in line there.
-pub fn descramble_plain(mode: u8, role: u8, n: u32, held: u8, line: u8) -> Descrambled
-    ensures { λ r. ⌜ r ≡ descrambled (column mode) role (register n held 0) line ⌝ }
-{
-    let c = line::column_of(mode);
-    let w = width_in(c);
-    let u = unsettled_bits(w, capacity_in(c), held);
-    let all = mixed(c, role, n, line);
-    let before = Register {
-        bits: n,
-        held: BitCount(held),
-        count: BitCount(0),
-    };
-    Descrambled {
-        plain: without_first(w, u, all),
-        unsettled: BitCount(u),
-        next: push_group(c, before, line),
-    }
 }

@@ -174,7 +174,7 @@ fn send_counted(s: Sender, plain: u8) -> Sender
     }
 }
 
-// The same with the guard, for which all of the register goes round.
+// The same with the guard, for which the count goes round, too.
 fn write_counted(s: Sender, input: &[u8], out: &mut [i16]) -> Sender
     requires { ⌜ (guardMode (s .mode) ≡ s .mode) × (s .line .held .0 ≡ capacity (s .mode))
         × T (every isBit (now input)) × (2 * (size (now input) / width (s .mode)) ≤ size (now out)) ⌝ }
