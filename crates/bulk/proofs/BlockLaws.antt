@@ -1,12 +1,12 @@
 -- A block is the single calls one after the other, and the ways of its code lead to that. Assumes nothing.
-use Prim.Native.Nat.{ℕ, zero, suc, _+_, _*_, _-_, _/_, _%_, _<_, _≤_}
+use Prim.Native.Nat.{ℕ, zero, suc, _+_, _*_, _-_, _/_, _%_, _^_, _<_, _≤_, min}
 use mathlib.Core.Path.{_≡_, refl, sym, ap, _∙_, subst}
-use mathlib.Core.Bool.{Bool, true, false, _&&_, not, and-assoc}
+use mathlib.Core.Bool.{Bool, true, false, _&&_, _||_, not, cond, and-assoc}
 use mathlib.Core.List.{List, [], _∷_, map}
 use mathlib.Core.Logic.{⊎-elim}
 use native.Mathlib.Omega.{arith}
 use borrow.Author.Tests.{le-leb, lt-leb, leb-true}
-use lib.Dec.{T, eqb, leb, eqb→eq}
+use lib.Dec.{T, eqb, leb, eqb→eq, eqb-refl}
 use lib.IntN.{ℤ, pos}
 use lib.ListN.{length, getD, set, drop, length-drop, length-set}
 use mir.Syntax.{w16}
@@ -14,7 +14,7 @@ use mir.Val.{SFits}
 use Rattle.line.specs.declared.Point.{Point}
 use Rattle.deciding.specs.declared.SquaredUnits.{SquaredUnits}
 use Rattle.line.specs.Table.{every, Tabled}
-use Rattle.line.specs.Mode.{isState, face, capacity}
+use Rattle.line.specs.Mode.{isMode, width, guarded, capacity, isState, face}
 use Rattle.line.specs.Point.{at, pairs, coordinateIn, inRange, coordinatesIn, isOrigin, sentPoint}
 use Rattle.deciding.specs.Decide.{Region, State, Origin, decide}
 use Rattle.deciding.specs.Distance.{squaredDistance, distance}
@@ -34,7 +34,7 @@ use Rattle.scrambler.specs.declared.Register.{Register}
 use Rattle.scrambler.specs.declared.Descrambled.{Descrambled}
 use Rattle.scrambler.specs.Register.{register, fresh, registerOk}
 use Rattle.scrambler.specs.Group.{descrambled}
-use Rattle.scrambler.proofs.GroupLaws.{descrambled-small, after-full}
+use Rattle.scrambler.proofs.GroupLaws.{descrambled-small, after-full, fill-law}
 use Rattle.receiver.specs.declared.Reference.{Reference}
 use Rattle.receiver.specs.declared.Reference.the-variants.{Nothing as none, State as some}
 use Rattle.receiver.specs.declared.Receiver.{Receiver}
@@ -46,7 +46,8 @@ use Rattle.receiver.proofs.TurnLaws.{bits-group}
 use Rattle.bulk.specs.declared.Block.{Block}
 use Rattle.bulk.specs.declared.Block.the-variants.{Refused as NotTaken, Taken}
 use Rattle.bulk.specs.declared.Step.{Step}
-use Rattle.bulk.specs.Hearing.{step, stateStep, left, AsLong, Hearing, Holds, settledAt}
+use Rattle.bulk.specs.declared.Settled.{Settled}
+use Rattle.bulk.specs.Hearing.{step, stateStep, left, AsLong, Hearing, Holds, laterAt, settledPoint, plainAt, heldNext}
 use Rattle.bulk.specs.Block.{Given, inUnits, pointsOf, plainByte, answersTo, Parts, parts, wrote, Lent, sizes, lentOk, blockRefusal, coordinateFault, placesOk, faultOf, FoundSo, numberOf, stateOf, Told, block, partsAfter, JustWhen, AllHeard}
 
 -- ONE POINT
@@ -413,9 +414,9 @@ module _ (s : Receiver) (b : Parts) (zs : List ℤ) (j : ℕ) (t : Receiver) (c 
   abbrev here : Point
   here = at (getD zs (2 * k) (pos 0)) (getD zs (2 * k + 1) (pos 0))
 
-  -- the ring and the rows of the first state serve, and what is left can be done from here
-  pub hearing-tables : (ring rows : List ℕ) → ring ≡ ringOf (s .mode) → Rows (s .mode) rows → (ring ≡ ringOf (t .mode)) × Rows (t .mode) rows
-  hearing-tables ring rows e r = (e ∙ ap ringOf (sym (h .mode-stays)), subst (λ (m : ℕ). Rows m rows) (sym (h .mode-stays)) r)
+  -- the rows of the first state serve, and what is left can be done from here
+  pub hearing-rows : (rows : List ℕ) → Rows (s .mode) rows → Rows (t .mode) rows
+  hearing-rows rows r = subst (λ (m : ℕ). Rows m rows) (sym (h .mode-stays)) r
 
   pub hearing-here : Hearing t c zs k t c k
   hearing-here = hearing-start t c zs k (h .place) (h .free)
@@ -431,6 +432,13 @@ module _ (s : Receiver) (b : Parts) (zs : List ℤ) (j : ℕ) (t : Receiver) (c 
 
     pub hearing-free : refusal t (point here) ≡ 0
     hearing-free = subst (λ (ps : List Point). EachAccepted t (map point ps)) now-here (h .free) .0
+
+    -- so it has a mode
+    pub hearing-mode : (1 ≤ t .mode) × (t .mode ≤ 6)
+    unfolding isMode
+    hearing-mode =
+        let v = accepted-valid t (point here) hearing-free .mode in
+        (leb-true _ _ (is-true _ (and-left (leb 1 (t .mode)) (leb (t .mode) 6) v)), leb-true _ _ (is-true _ (and-right (leb 1 (t .mode)) (leb (t .mode) 6) v)))
 
     pub hearing-step : (r : Step) (d : Parts) → r ≡ step (answer t (point here)) (next t (point here)) → d ≡ stepped c k r → Hearing s b zs j (r .next) d (k + 1)
     hearing-step r d e ed =
@@ -455,53 +463,119 @@ module _ (s : Receiver) (b : Parts) (zs : List ℤ) (j : ℕ) (t : Receiver) (c 
         ap (λ (ps : List Point). wrote c k (answersTo t ps)) (sym q) ∙ h .parts-left,
       )
 
--- WHERE ALL DATA BITS ARE SETTLED
+-- POINTS AFTER A REFERENCE
 
--- a receiver with a reference and a full register
--- the test for it, with no guard
-pub settled-test : (a b : ℕ) (g : Bool) → eqb a b && not g ≡ true → (a ≡ b) × (g ≡ false)
-settled-test a b g e =
-    let t : T (eqb a b && not g) = subst T (sym e) tt in
-    (eqb→eq a b (and-left (eqb a b) (not g) t), go g (and-right (eqb a b) (not g) t))
+-- the test for what the loop takes: with the guard, a full register
+pub run-test : (a b : ℕ) (g : Bool) → eqb a b || not g ≡ true → g ≡ true → a ≡ b
+run-test a b g e h = eqb→eq a b (go (eqb a b) g e h)
   where
-    go : (g : Bool) → T (not g) → g ≡ false
-    go true n = absurd n
-    go false n = refl
+    go : (t g : Bool) → t || not g ≡ true → g ≡ true → T t
+    go true g e h = tt
+    go false true e h = subst T (sym e) tt
+    go false false e h = subst T (sym h) tt
 
-pub is-settled : (s : Receiver) (x full held : ℕ) → s .reference ≡ some x → full ≡ capacity (s .mode) → held ≡ full → held ≡ s .line .held .0 → s ≡ settledAt s x (s .line .bits) (s .line .count .0) 0
-is-settled s x full held er ef eh el =
-    let h : s .line .held .0 ≡ capacity (s .mode) = sym el ∙ eh ∙ ef in
+pub at-reference : (s : Receiver) (x : ℕ) → s .reference ≡ some x → s ≡ laterAt s x (s .line .bits) (s .line .held .0) (s .line .count .0) 0
+at-reference s x er =
     let e : s .place .0 ≡ s .place .0 + 0 = omega arith in
-    λ i. receiver (s .mode) (s .role) (er i) (register (s .line .bits) (h i) (s .line .count .0)) (e i)
+    λ i. receiver (s .mode) (s .role) (er i) (s .line) (e i)
 
--- one point more: the step is the receiver's, and the register stays full
-module _ (s : Receiver) (x n c i : ℕ) (re im : ℤ) where
+-- a group after h line bits from the same after a full register
+module _ (m role n h c g : ℕ) where
+  abbrev full-one : Descrambled
+  full-one = descrambled m role (register n (capacity m) c) g
+
+  abbrev this-one : Descrambled
+  this-one = descrambled m role (register n h c) g
+
+  abbrev ReadAs : Bool → Type 0
+  ReadAs t =
+      (cond t (full-one .plain) (16 * min (capacity m - h) (width m) + full-one .plain % 2 ^ (width m - min (capacity m - h) (width m)))
+      ≡ 16 * this-one .unsettled .0 + this-one .plain)
+      × (register (full-one .next .bits) (cond t h (min (h + width m) (capacity m))) (full-one .next .count .0) ≡ this-one .next)
+
+  read-full : h ≡ capacity m → ReadAs true
+  read-full e =
+      let same : full-one ≡ this-one = ap (λ (k : ℕ). descrambled m role (register n k c) g) (sym e) in
+      let f = after-full m role n c g in
+      let plain : full-one .plain ≡ 16 * full-one .unsettled .0 + full-one .plain = omega (arith, f .0) in
+      let held : h ≡ full-one .next .held .0 = e ∙ sym (f .1) in (
+        plain ∙ ap (λ (d : Descrambled). 16 * d .unsettled .0 + d .plain) same,
+        ap (λ (k : ℕ). register (full-one .next .bits) k (full-one .next .count .0)) held ∙ ap (λ (d : Descrambled). d .next) same,
+      )
+
+  read-filling : guarded m ≡ false → ReadAs false
+  read-filling f =
+      let e = fill-law m role n h c c g f in
+      (ap (λ (d : Descrambled). 16 * d .unsettled .0 + d .plain) (sym e), ap (λ (d : Descrambled). d .next) (sym e))
+
+  read-as : (guarded m ≡ true → h ≡ capacity m) → ReadAs (eqb h (capacity m))
+  read-as k = go (eqb h (capacity m)) (guarded m) refl refl
+    where
+      go : (t b : Bool) → eqb h (capacity m) ≡ t → guarded m ≡ b → ReadAs t
+      go true b e f = read-full (eqb→eq h (capacity m) (subst T (sym e) tt))
+      go false true e f = absurd (subst T e (subst (λ (j : ℕ). T (eqb h j)) (k f) (eqb-refl h)))
+      go false false e f = read-filling f
+
+-- a point after a full register, from its parts
+pub settled-whole : (m role x n c : ℕ) (rows : List ℕ) (re im : ℤ) (y g : ℕ) (d : Descrambled) → y ≡ getD (ringOf m) (ringIndex m re im) 0 → g ≡ withRow m (getD rows (rowIndex m x y) 0) y
+    → d ≡ descrambled m role (register n (capacity m) c) g
+    → _≡_ {A = Settled} (record { state = y; line = g; plain = d .plain; bits = d .next .bits; count = d .next .count .0 }) (settledPoint m role x n c rows re im)
+settled-whole m role x n c rows re im y g d ey eg ed = rw (ed, eg, ey)
+
+-- and by the number that the mode is
+pub settled-as : (m k role x n c : ℕ) (rows : List ℕ) (re im : ℤ) (r : Settled) → m ≡ k → r ≡ settledPoint k role x n c rows re im → r ≡ settledPoint m role x n c rows re im
+settled-as m k role x n c rows re im r e q = q ∙ ap (λ (j : ℕ). settledPoint j role x n c rows re im) (sym e)
+
+-- the two cases of a register
+pub cond-full : {A : Type 0} (h k : ℕ) (a b r : A) → r ≡ a → h ≡ k → r ≡ cond (eqb h k) a b
+cond-full h k a b r e q =
+    let t : eqb h k ≡ true = is-true _ (subst (λ (j : ℕ). T (eqb h j)) q (eqb-refl h)) in
+    e ∙ ap (λ (z : Bool). cond z a b) (sym t)
+
+pub cond-filling : {A : Type 0} (h k : ℕ) (a b r : A) → r ≡ b → (h ≡ k → ⊥) → r ≡ cond (eqb h k) a b
+cond-filling h k a b r e f = go (eqb h k) refl
+  where
+    go : (t : Bool) → eqb h k ≡ t → r ≡ cond t a b
+    go true q = absurd (f (eqb→eq h k (subst T (sym q) tt)))
+    go false q = e
+
+pub held-full : (m h k : ℕ) → (guarded m ≡ true → h ≡ capacity m) → k ≡ heldNext m h → guarded m ≡ true → k ≡ capacity m
+held-full m h k f e g =
+    let q : eqb h (capacity m) ≡ true = is-true _ (subst (λ (j : ℕ). T (eqb h j)) (f g) (eqb-refl h)) in
+    e ∙ ap (λ (t : Bool). cond t h (min (h + width m) (capacity m))) q ∙ f g
+
+-- one point more: the step is the receiver's
+module _ (s : Receiver) (x n h c i : ℕ) (re im : ℤ) where
   abbrev now-at : Receiver
-  now-at = settledAt s x n c i
+  now-at = laterAt s x n h c i
 
-  pub settled-step : (ring rows : List ℕ) (origin : Bool) (y g : ℕ) (d : Descrambled) (u : SquaredUnits) → refusal now-at (point (at re im)) ≡ 0 → origin ≡ isOrigin (at re im) → origin ≡ false
-      → ring ≡ ringOf (s .mode) → Rows (s .mode) rows → y ≡ getD ring (ringIndex (s .mode) re im) 0 → g ≡ withRow (s .mode) (getD rows (rowIndex (s .mode) x y) 0) y
-      → d ≡ descrambled (s .mode) (s .role) (register n (capacity (s .mode)) c) g → u .0 ≡ distance (s .mode) y (at re im)
-      → _≡_ {A = Step} (record { line = g; plain = d .plain; distance = u; next = settledAt s y (d .next .bits) (d .next .count .0) (i + 1) }) (step (answer now-at (point (at re im))) (next now-at (point (at re im))))
-  settled-step ring rows origin y g d u z eo off er rs ey eg ed eu =
-      let full = after-full (s .mode) (s .role) n c g in
-      let none-unsettled : d .unsettled .0 ≡ 0 = ap (λ (b : Descrambled). b .unsettled .0) ed ∙ full .0 in
-      let held : capacity (s .mode) ≡ d .next .held .0 = sym (ap (λ (b : Descrambled). b .next .held .0) ed ∙ full .1) in
-      let plain : d .plain ≡ 16 * d .unsettled .0 + d .plain = omega arith in
+  run-step : (rows : List ℕ) (origin : Bool) (r : Settled) (u : SquaredUnits) (p k : ℕ) → refusal now-at (point (at re im)) ≡ 0 → origin ≡ isOrigin (at re im) → origin ≡ false
+      → Rows (s .mode) rows → (guarded (s .mode) ≡ true → h ≡ capacity (s .mode)) → r ≡ settledPoint (s .mode) (s .role) x n c rows re im
+      → u .0 ≡ distance (s .mode) (r .state) (at re im) → p ≡ plainAt (s .mode) h (r .plain) → k ≡ heldNext (s .mode) h
+      → _≡_ {A = Step} (record { line = r .line; plain = p; distance = u; next = laterAt s (r .state) (r .bits) k (r .count) (i + 1) }) (step (answer now-at (point (at re im))) (next now-at (point (at re im))))
+  run-step rows origin r u p k z eo off rs full er eu ep ek =
+      let m : ℕ = s .mode in
+      let y : ℕ = getD (ringOf m) (ringIndex m re im) 0 in
+      let g : ℕ = withRow m (getD rows (rowIndex m x y) 0) y in
+      let d : Descrambled = descrambled m (s .role) (register n h c) g in
+      let f : Descrambled = descrambled m (s .role) (register n (capacity m) c) g in
+      let q = read-as m (s .role) n h c g full in
+      let plain : p ≡ 16 * d .unsettled .0 + d .plain = ep ∙ ap (λ (v : Settled). plainAt m h (v .plain)) er ∙ q .0 in
+      let line : register (r .bits) k (r .count) ≡ d .next = (λ j. register (er j .bits) (ek j) (er j .count)) ∙ q .1 in
       let place : s .place .0 + (i + 1) ≡ s .place .0 + i + 1 = omega arith in
-      let later : Receiver = receiver (s .mode) (s .role) (some y) (d .next) (s .place .0 + i + 1) in
-      let same : settledAt s y (d .next .bits) (d .next .count .0) (i + 1) ≡ later = λ k. receiver (s .mode) (s .role) (some y) (register (d .next .bits) (held k) (d .next .count .0)) (place k) in
-      hear-state now-at re im z origin eo ring y u _ off er ey eu
-      ((λ k. record { line = g; plain = plain k; distance = u; next = same k }) ∙ take-bits now-at later y u (some x) x g d rows refl rs eg ed refl)
+      let later : Receiver = receiver m (s .role) (some y) (d .next) (s .place .0 + i + 1) in
+      let same : laterAt s (r .state) (r .bits) k (r .count) (i + 1) ≡ later = λ j. receiver m (s .role) (some (er j .state)) (line j) (place j) in
+      hear-state now-at re im z origin eo (ringOf m) y u _ off refl refl (eu ∙ ap (λ (v : Settled). distance m (v .state) (at re im)) er)
+      ((λ j. record { line = er j .line; plain = plain j; distance = u; next = same j }) ∙ take-bits now-at later y u (some x) x g d rows refl rs refl refl refl)
 
-pub settled-start : (s : Receiver) (b : Parts) (zs : List ℤ) (j x : ℕ) → s ≡ settledAt s x (s .line .bits) (s .line .count .0) 0 → Hearing s b zs j s b j
-    → Hearing s b zs j (settledAt s x (s .line .bits) (s .line .count .0) (j - j)) b j
-settled-start s b zs j x e h =
-    subst (λ (t : Receiver). Hearing s b zs j t b j) (e ∙ ap (settledAt s x (s .line .bits) (s .line .count .0)) (let z : 0 ≡ j - j = omega arith in z)) h
+pub run-start : (s : Receiver) (b : Parts) (zs : List ℤ) (j x : ℕ) → s ≡ laterAt s x (s .line .bits) (s .line .held .0) (s .line .count .0) 0 → Hearing s b zs j s b j
+    → Hearing s b zs j (laterAt s x (s .line .bits) (s .line .held .0) (s .line .count .0) (j - j)) b j
+run-start s b zs j x e h =
+    subst (λ (t : Receiver). Hearing s b zs j t b j) (e ∙ ap (laterAt s x (s .line .bits) (s .line .held .0) (s .line .count .0)) (let z : 0 ≡ j - j = omega arith in z)) h
 
 -- the place where they end is in range
-pub settled-room : (s t : Receiver) (b c : Parts) (zs : List ℤ) (j k : ℕ) → s .place .0 ≤ 4294967295 → EachAccepted s (map point (left zs j)) → Hearing s b zs j t c k → s .place .0 + (k - j) ≤ 4294967295
-settled-room s t b c zs j k r f h =
+pub run-room : (s t : Receiver) (b c : Parts) (zs : List ℤ) (j k : ℕ) → s .place .0 ≤ 4294967295 → EachAccepted s (map point (left zs j)) → Hearing s b zs j t c k → s .place .0 + (k - j) ≤ 4294967295
+run-room s t b c zs j k r f h =
     omega (arith, each-has-place s (left zs j) r f, pairs-length (drop (2 * j) zs), length-drop (2 * j) zs, h .on, h .place)
 
 -- the distance from the constellation's point
@@ -509,14 +583,14 @@ pub from-constellation : (m y : ℕ) (re im : ℤ) (points : List Point) (n : �
     → n ≡ squaredDistance (at re im) (getD points (y % 16) (at (pos 0) (pos 0))) % 4294967296 → n ≡ distance m y (at re im)
 from-constellation m y re im points n fr fi t q = sent-law m y re im _ n fr fi (t .at (y % 16) (omega arith) ∙ sent-round m y) q
 
-pub settled-again : (s : Receiver) (b c c′ : Parts) (zs : List ℤ) (j k x n count : ℕ) → Hearing s b zs j (settledAt s x n count (k - j)) c k → k < length zs / 2
-    → (re im : ℤ) → re ≡ getD zs (2 * k) (pos 0) → im ≡ getD zs (2 * k + 1) (pos 0) → (ring rows : List ℕ) (origin : Bool) (y g : ℕ) (d : Descrambled) (u : SquaredUnits)
-    → ring ≡ ringOf (s .mode) → Rows (s .mode) rows → origin ≡ isOrigin (at re im) → origin ≡ false → y ≡ getD ring (ringIndex (s .mode) re im) 0
-    → g ≡ withRow (s .mode) (getD rows (rowIndex (s .mode) x y) 0) y → d ≡ descrambled (s .mode) (s .role) (register n (capacity (s .mode)) count) g → u .0 ≡ distance (s .mode) y (at (getD zs (2 * k) (pos 0)) (getD zs (2 * k + 1) (pos 0)))
-    → c′ ≡ parts (set (c .line) k g) (set (c .plain) k (d .plain)) (set (c .distance) k (u .0)) → Hearing s b zs j (settledAt s y (d .next .bits) (d .next .count .0) (k + 1 - j)) c′ (k + 1)
-settled-again s b c c′ zs j k x n count h i re im ere eim ring rows origin y g d u er rs eo off ey eg ed eu ec =
-    let t : Receiver = settledAt s x n count (k - j) in
-    let e = settled-step s x n count (k - j) (getD zs (2 * k) (pos 0)) (getD zs (2 * k + 1) (pos 0)) ring rows origin y g d u (hearing-free s b zs j t c k h i) (rw (ere, eim) at eo) off er rs
-    (rw (ere, eim) at ey) eg ed eu in
-    subst (λ (m : ℕ). Hearing s b zs j (settledAt s y (d .next .bits) (d .next .count .0) m) c′ (k + 1)) (let z : k - j + 1 ≡ k + 1 - j = omega (arith, h .on) in z)
-    (hearing-step s b zs j t c k h i _ c′ e ec)
+pub run-again : (s : Receiver) (b c c′ : Parts) (zs : List ℤ) (j k x n h count : ℕ) → Hearing s b zs j (laterAt s x n h count (k - j)) c k → k < length zs / 2
+    → (re im : ℤ) → re ≡ getD zs (2 * k) (pos 0) → im ≡ getD zs (2 * k + 1) (pos 0) → (rows : List ℕ) (origin : Bool) (r : Settled) (u : SquaredUnits) (p l : ℕ)
+    → Rows (s .mode) rows → (guarded (s .mode) ≡ true → h ≡ capacity (s .mode)) → origin ≡ isOrigin (at re im) → origin ≡ false → r ≡ settledPoint (s .mode) (s .role) x n count rows re im
+    → u .0 ≡ distance (s .mode) (r .state) (at (getD zs (2 * k) (pos 0)) (getD zs (2 * k + 1) (pos 0))) → p ≡ plainAt (s .mode) h (r .plain) → l ≡ heldNext (s .mode) h
+    → c′ ≡ parts (set (c .line) k (r .line)) (set (c .plain) k p) (set (c .distance) k (u .0)) → Hearing s b zs j (laterAt s (r .state) (r .bits) l (r .count) (k + 1 - j)) c′ (k + 1)
+run-again s b c c′ zs j k x n h count i w re im ere eim rows origin r u p l rs full eo off er eu ep el ec =
+    let t : Receiver = laterAt s x n h count (k - j) in
+    let e = run-step s x n h count (k - j) (getD zs (2 * k) (pos 0)) (getD zs (2 * k + 1) (pos 0)) rows origin r u p l (hearing-free s b zs j t c k i w) (rw (ere, eim) at eo) off rs full
+    (rw (ere, eim) at er) eu ep el in
+    subst (λ (m : ℕ). Hearing s b zs j (laterAt s (r .state) (r .bits) l (r .count) m) c′ (k + 1)) (let z : k - j + 1 ≡ k + 1 - j = omega (arith, i .on) in z)
+    (hearing-step s b zs j t c k i w _ c′ e ec)

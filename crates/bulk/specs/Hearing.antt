@@ -1,13 +1,17 @@
--- What is left of a block's points, and a receiver whose data bits are settled: the contracts of the private functions.
-use Prim.Native.Nat.{ℕ, _+_, _*_, _/_, _≤_}
+-- What is left of a block's points, and points after a reference: the contracts of the private functions.
+use Prim.Native.Nat.{ℕ, _+_, _*_, _-_, _/_, _%_, _^_, _≤_, min}
 use mathlib.Core.Path.{_≡_}
+use mathlib.Core.Bool.{cond}
 use mathlib.Core.List.{List, map}
+use lib.Dec.{eqb}
 use lib.IntN.{ℤ}
-use lib.ListN.{length, drop}
+use lib.ListN.{length, getD, drop}
 use Rattle.line.specs.declared.Point.{Point}
-use Rattle.line.specs.Mode.{capacity, face}
+use Rattle.line.specs.Mode.{width, capacity, face}
 use Rattle.line.specs.Point.{pairs}
+use Rattle.deciding.specs.Sizes.{ringOf, ringIndex}
 use Rattle.coding.specs.Code.{group}
+use Rattle.coding.specs.Rows.{rowIndex, withRow}
 use Rattle.deciding.specs.declared.SquaredUnits.{SquaredUnits}
 use Rattle.scrambler.specs.declared.Descrambled.{Descrambled}
 use Rattle.scrambler.specs.Register.{register}
@@ -18,6 +22,7 @@ use Rattle.receiver.specs.declared.Receiver.{Receiver}
 use Rattle.receiver.specs.Receiver.{receiver, point, Answer, stateNext}
 use Rattle.receiver.specs.Calls.{after, EachAccepted}
 use Rattle.bulk.specs.declared.Step.{Step}
+use Rattle.bulk.specs.declared.Settled.{Settled}
 use Rattle.bulk.specs.Block.{lineByte, plainByte, distanceNumber, answersTo, Parts, wrote}
 
 -- one point of a block: the bytes and the number of its answer, and the state after it
@@ -58,6 +63,21 @@ pub record Holds (zs : List ℤ) (b : Parts) : Type 0 where
   pub plain : length zs / 2 ≤ length (b .plain)
   pub distance : length zs / 2 ≤ length (b .distance)
 
--- a receiver with a reference x and a full register of bits n and, since document 02's R-6, the guard's count c, i intervals after s
-abbrev pub settledAt : Receiver → ℕ → ℕ → ℕ → ℕ → Receiver
-settledAt s x n c i = receiver (s .mode) (s .role) (some x) (register n (capacity (s .mode)) c) (s .place .0 + i)
+-- a receiver i intervals after s, with a reference x and a register of bits n, of which h are held, and the guard's count c
+abbrev pub laterAt : Receiver → ℕ → ℕ → ℕ → ℕ → ℕ → Receiver
+laterAt s x n h c i = receiver (s .mode) (s .role) (some x) (register n h c) (s .place .0 + i)
+
+-- a point after a reference x and a full register of bits n and the count c, as the code has it: by its ring and its rows
+abbrev pub settledPoint : ℕ → ℕ → ℕ → ℕ → ℕ → List ℕ → ℤ → ℤ → Settled
+settledPoint m role x n c rows re im =
+    let y : ℕ = getD (ringOf m) (ringIndex m re im) 0 in
+    let g : ℕ = withRow m (getD rows (rowIndex m x y) 0) y in
+    let d : Descrambled = descrambled m role (register n (capacity m) c) g in
+    record { state = y; line = g; plain = d .plain; bits = d .next .bits; count = d .next .count .0 }
+
+-- the same where h line bits are held, in a mode without the guard: the byte of its data bits p, and the line bits held after it
+abbrev pub plainAt : ℕ → ℕ → ℕ → ℕ
+plainAt m h p = cond (eqb h (capacity m)) p (16 * min (capacity m - h) (width m) + p % 2 ^ (width m - min (capacity m - h) (width m)))
+
+abbrev pub heldNext : ℕ → ℕ → ℕ
+heldNext m h = cond (eqb h (capacity m)) h (min (h + width m) (capacity m))

@@ -1,10 +1,11 @@
 -- A group is found by its row. Assumes nothing.
 use mathlib.Core.Path.{_≡_, refl, sym, ap, ap₂, _∙_, subst}
-use mathlib.Core.List.{List}
+use mathlib.Core.List.{List, [], _∷_}
 use Prim.Native.Nat.{ℕ, zero, suc, _+_, _*_, _-_, _/_, _%_, _<_, _≤_}
+use native.Mathlib.Nat.{not-suc-le-zero}
 use native.Mathlib.Omega.{arith}
 use lib.Dec.{eqb}
-use lib.ListN.{getD}
+use lib.ListN.{length, getD}
 use Rattle.line.specs.Table.{entry, firstRow}
 use Rattle.line.specs.Mode.{column, byMode, face, quadrant}
 use Rattle.line.proofs.ByMode.{same-column, mode-1, mode-2, mode-3, mode-4, by-all}
@@ -106,6 +107,19 @@ row-in-unit m (suc (suc (suc (suc n)))) i u r c h f e q =
 pub index-small : (m x s : ℕ) → rowIndex m x s < 16
 unfolding rowIndex eighths quadrant
 index-small m x s = by-all (λ (i : ℕ). i < 16) _ _ _ _ (omega arith) (omega arith) (omega arith) (omega arith) m
+
+-- rows given one by one, each by a rule
+abbrev pub OneByOne : (ℕ → ℕ) → List ℕ → Type 0
+OneByOne rule [] = Unit {0}
+OneByOne rule (x ∷ xs) = (x ≡ rule 0) × OneByOne (λ i. rule (suc i)) xs
+
+one-at : (rule : ℕ → ℕ) (xs : List ℕ) → OneByOne rule xs → (i : ℕ) → i < length xs → getD xs i 0 ≡ rule i
+one-at rule [] t i h = absurd (not-suc-le-zero h)
+one-at rule (x ∷ xs) t zero h = t .0
+one-at rule (x ∷ xs) t (suc i) h = one-at (λ j. rule (suc j)) xs (t .1) i (omega arith)
+
+pub rows-one-by-one : (m : ℕ) (rows : List ℕ) → length rows ≡ 16 → OneByOne (rowAt m) rows → Rows m rows
+rows-one-by-one m rows e t = record { size = e; at = λ i h. one-at (rowAt m) rows t i (omega (arith, e)) }
 
 -- the rows by a mode's column are the mode's
 module _ (m k : ℕ) (f : k ≡ column m) where

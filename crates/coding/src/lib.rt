@@ -191,18 +191,29 @@ fn with_row(c: u8, row: u8, s: u8) -> u8
     if c <= 3 { row } else { row / 4 % 4 * 4 + s % 4 }
 }
 
-// All rows of a column. The first is found apart: with two calls of `row_at` the loop is unrolled before they are put in line.
+// All rows of a column, one by one: of a loop the compiler would write them through pointers, byte by byte, and copy them.
 fn rows_in(c: u8) -> [u8; 16]
     requires { ⌜ c ≤ 4 ⌝ }
     ensures { λ r. ⌜ Rows c r ⌝ }
 {
-    let mut rows = [row_at(c, 0); 16];
-    let mut i = 1;
-    while i < 16 {
-        rows[i] = row_at(c, i);
-        i += 1;
-    }
-    rows
+    [
+        row_at(c, 0),
+        row_at(c, 1),
+        row_at(c, 2),
+        row_at(c, 3),
+        row_at(c, 4),
+        row_at(c, 5),
+        row_at(c, 6),
+        row_at(c, 7),
+        row_at(c, 8),
+        row_at(c, 9),
+        row_at(c, 10),
+        row_at(c, 11),
+        row_at(c, 12),
+        row_at(c, 13),
+        row_at(c, 14),
+        row_at(c, 15),
+    ]
 }
 
 // All rows of a mode, found once for a caller that looks up many.

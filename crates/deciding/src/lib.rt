@@ -153,6 +153,13 @@ fn state_of(c: u8, re: i16, im: i16) -> u8
     }
 }
 
+// The same of a mode. For a caller that names the mode as a constant: all that depends on it is then a constant too.
+pub fn state_in(mode: u8, re: i16, im: i16) -> u8
+    ensures { λ r. ⌜ r ≡ getD (ringOf mode) (ringIndex mode re im) 0 ⌝ }
+{
+    state_of(line::column_of(mode), re, im)
+}
+
 // How far apart two coordinates are.
 fn apart(x: i16, y: i16) -> u32
     ensures { λ r. ⌜ (r ≡ apartSpec x y) × (r ≤ 65536) ⌝ }

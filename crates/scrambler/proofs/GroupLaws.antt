@@ -248,9 +248,6 @@ pub mixed-small : (m role n x : ℕ) → mixedAtOnce m role n x < 2 ^ width m
 unfolding mixedAtOnce
 mixed-small m role n x = mod-lt (bitXor (bitXor x (n / 2 ^ (nearTap m role - width m))) (n / 2 ^ (farTap m - width m))) (pow-pos (width m))
 
-pub small-group : (m role n x w all : ℕ) → w ≡ width m → all ≡ mixedAtOnce m role n x → all < 2 ^ w
-small-group m role n x w all ew ea = rw (ew, ea) (mixed-small m role n x)
-
 inverted-small : (m w : ℕ) (h : Register) (y : ℕ) → inverted m w h y < 2 ^ w
 inverted-small m w h y =
     let es : List ℕ = bits w (differAtOnce w (h .bits) y) in
@@ -340,23 +337,6 @@ module _ (m role : ℕ) (h : Register) (g : ℕ) where
     where
       ds₀ : List Datum
       ds₀ = marked (capacity m - h .held .0) (unmixed m role h (bits (width m) g))
-
--- without the guard as the column, whatever is counted
-pub plain-law : (m role g : ℕ) (h : Register) (d : Descrambled) → guarded m ≡ false → d ≡ descrambled (column m) role (register (h .bits) (h .held .0) 0) g → d ≡ descrambled m role h g
-plain-law m role g h d p e =
-    e ∙ ap (λ (k : ℕ). descrambled k role (register (h .bits) (h .held .0) 0) g) (plain-column m p) ∙ sym (whole (register (h .bits) (h .held .0) 0)) ∙ whole h
-  where
-    whole : (k : Register)
-        → _≡_ {A = Descrambled}
-        (record {
-          plain = mixedAtOnce m role (k .bits) g % 2 ^ (width m - min (capacity m - k .held .0) (width m));
-          unsettled = record { 0 = min (capacity m - k .held .0) (width m) };
-          next = register ((k .bits * 2 ^ width m + g % 2 ^ width m) % 2 ^ capacity m) (min (k .held .0 + width m) (capacity m)) 0;
-        })
-        (descrambled m role k g)
-    whole k =
-        plain-descramble-law m role k g (width m) (capacity m) _ _ _ _ p refl refl refl refl refl
-        (push-plain m k g _ _ p (push-law m k g (width m) (capacity m) _ _ _ _ refl refl refl refl refl refl))
 
 -- a group's numbers are small, so that one byte holds both
 pub descrambled-small : (m role : ℕ) (h : Register) (g : ℕ) → (descrambled m role h g .plain < 16) × (descrambled m role h g .unsettled .0 ≤ 4)
@@ -472,6 +452,25 @@ pub next-law : (m role n c g : ℕ) (d : Descrambled) → d ≡ descrambled (col
     → d ≡ descrambled m role (register n (capacity m) c) g
 next-law m role n c g d e p =
     column-law m m role n c g d (e ∙ ap (λ (k : ℕ). descrambled k role (register n (capacity k) 0) g) (plain-column m p)) p p (λ x y z w. refl)
+
+-- without the guard, after any register: the bits as after a full one, of the data bits the first ones unsettled
+pub fill-law : (m role n h c k g : ℕ) → guarded m ≡ false
+    → _≡_ {A = Descrambled}
+    (descrambled m role (register n h k) g)
+    (record {
+      plain = descrambled m role (register n (capacity m) c) g .plain % 2 ^ (width m - min (capacity m - h) (width m));
+      unsettled = record { 0 = min (capacity m - h) (width m) };
+      next = register (descrambled m role (register n (capacity m) c) g .next .bits) (min (h + width m) (capacity m)) (descrambled m role (register n (capacity m) c) g .next .count .0);
+    })
+fill-law m role n h c k g p =
+    sym (plain-descramble-law m role (register n h k) g (width m) (capacity m) _ _ _ _ p refl refl refl refl refl
+    (push-plain m (register n h k) g _ _ p (push-law m (register n h k) g (width m) (capacity m) _ _ _ _ refl refl refl refl refl refl)))
+    ∙ ap (λ (d : Descrambled). record {
+      plain = d .plain % 2 ^ (width m - min (capacity m - h) (width m));
+      unsettled = record { 0 = min (capacity m - h) (width m) };
+      next = register (d .next .bits) (min (h + width m) (capacity m)) (d .next .count .0);
+    })
+    (plain-full-law m role n c g (width m) (capacity m) _ _ _ _ p refl refl refl refl refl refl)
 
 pub zeros-sent : ZerosSent
 unfolding farTap guarded capacity back nearTap counting inverting differs countAfter push mix

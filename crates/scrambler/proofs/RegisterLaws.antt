@@ -238,7 +238,7 @@ agree-double k x x′ b e =
 mod-small : (i j y : ℕ) → i ≤ j → y % 2 ^ i % 2 ^ j ≡ y % 2 ^ i
 mod-small i j y h = mod-eq-of-lt (le-trans (mod-lt y (pow-pos i)) (pow-le-pow-right (lit< tt) h))
 
-mod-large : (i j y : ℕ) → i ≤ j → y % 2 ^ j % 2 ^ i ≡ y % 2 ^ i
+pub mod-large : (i j y : ℕ) → i ≤ j → y % 2 ^ j % 2 ^ i ≡ y % 2 ^ i
 mod-large i j y h = ap (λ (n : ℕ). y % 2 ^ n % 2 ^ i) (let e : j ≡ j - i + i = omega arith in e) ∙ mod-mod-pow y (j - i) i
 
 mod-swap : (i j y : ℕ) → y % 2 ^ i % 2 ^ j ≡ y % 2 ^ j % 2 ^ i

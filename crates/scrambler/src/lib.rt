@@ -248,6 +248,14 @@ fn unsettled_bits(w: u8, full: u8, held: u8) -> u8
     if w <= missing { w } else { missing }
 }
 
+// How many of the w data bits of a group are unsettled, with so many line bits held before it.
+pub fn unsettled_of(mode: u8, held: u8) -> u8
+    ensures { λ r. ⌜ r ≡ min (capacity mode - held) (width mode) ⌝ }
+    ensures { λ r. ⌜ r ≤ 4 ⌝ }
+{
+    unsettled_bits(line::width_of(mode), line::capacity_of(mode), held)
+}
+
 // A group without its first u bits.
 fn without_first(w: u8, u: u8, x: u8) -> u8
     requires { ⌜ (u ≤ w) × (w ≤ 4) × (x < 2 ^ w) ⌝ }
@@ -268,24 +276,23 @@ fn without_first(w: u8, u: u8, x: u8) -> u8
     }
 }
 
-// The data bits of w line bits after any register, in the mode of the column. It has one caller, so that it is put in line there.
-pub fn descramble_plain(mode: u8, role: u8, n: u32, held: u8, line: u8) -> Descrambled
-    ensures { λ r. ⌜ r ≡ descrambled (column mode) role (register n held 0) line ⌝ }
+// The data bits of a group without the unsettled ones.
+pub fn settled_of(mode: u8, held: u8, plain: u8) -> u8
+    ensures { λ r. ⌜ r ≡ plain % 2 ^ (width mode - min (capacity mode - held) (width mode)) ⌝ }
+    ensures { λ r. ⌜ r < 16 ⌝ }
 {
-    let c = line::column_of(mode);
-    let w = width_in(c);
-    let u = unsettled_bits(w, capacity_in(c), held);
-    let all = mixed(c, role, n, line);
-    let before = Register {
-        bits: n,
-        held: BitCount(held),
-        count: BitCount(0),
-    };
-    Descrambled {
-        plain: without_first(w, u, all),
-        unsettled: BitCount(u),
-        next: push_group(c, before, line),
-    }
+    let w = line::width_of(mode);
+    let u = unsettled_bits(w, line::capacity_of(mode), held);
+    without_first(w, u, low_bits(line::column_of(mode), plain as u32))
+}
+
+// The line bits held after a group.
+pub fn held_after(mode: u8, held: u8) -> u8
+    ensures { λ r. ⌜ r ≡ min (held + width mode) (capacity mode) ⌝ }
+{
+    let w = line::width_of(mode);
+    let full = line::capacity_of(mode);
+    if full - w <= held { full } else { held + w }
 }
 
 // ---- with the guard

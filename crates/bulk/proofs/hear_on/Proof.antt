@@ -1,13 +1,8 @@
-use mathlib.Core.Path.{refl, sym, _∙_}
-use Rattle.bulk.proofs.BlockLaws.{settled-test, is-settled}
+use mathlib.Core.Path.{_∙_}
+use Rattle.bulk.proofs.BlockLaws.{run-test, at-reference}
 use borrow.Author.Needs.{needs}
 use Rattle.bulk.proofs.hear_on.Statement.{statement}
 use Rattle.bulk.proofs.hear_on.Tie as tie
-use Rattle.bulk.proofs.hear_on.Reads as reads
-use Rattle.bulk.proofs.hear_on.Lts as lts
-use Rattle.bulk.proofs.hear_settled.Reads as hear-settled-reads
-use Rattle.line.proofs.capacity_of.Reads as capacity-of-reads
-use Rattle.line.proofs.has_guard.Reads as has-guard-reads
 
 enum-told : tie.Need-enum-told
 enum-told c = search needs
@@ -21,13 +16,12 @@ capacity-of-requires c κs = search needs
 has-guard-requires : tie.Need-has-guard-requires
 has-guard-requires c κs = search needs
 
-hear-settled-requires : tie.Need-hear-settled-requires
-hear-settled-requires c κs =
-    let b = c .before .before .before in
-    let s = b .before .before .before .before .before .before .before .before .before .before in
+hear-run-requires : tie.Need-hear-run-requires
+hear-run-requires c κs =
+    let s = c .before .before .before .before .before .before .before .before .before .before .before .before .before in
     let p = s .pre in
-    let t = settled-test _ _ _ (b .if1 .taken) in
-    (sym (b .before .has-guard .ensures) ∙ t .1, p .0, p .1, is-settled (s .args .s) _ _ _ (search needs) (b .before .before .before .capacity-of .ensures) (t .0) refl, p .2, p .3)
+    let f = run-test _ _ _ (c .before .before .before .if1 .taken) in
+    (λ g. f (c .before .before .before .before .has-guard .ensures ∙ g) ∙ c .before .before .before .before .before .before .capacity-of .ensures, p .0, at-reference (s .args .s) _ (search needs), p .1, p .2)
 
 same-length : tie.Need-same-length
 same-length c = search needs
@@ -55,7 +49,7 @@ hear-on-spec =
     enum-known-reference
     capacity-of-requires
     has-guard-requires
-    hear-settled-requires
+    hear-run-requires
     same-length
     same-length-2
     same-length-3

@@ -1,54 +1,78 @@
+use mathlib.Core.Path.{refl}
+use Rattle.coding.proofs.RowLaws.{rows-one-by-one}
 use borrow.Author.Needs.{needs}
-use Prim.Native.Nat.{_-_, _≤_}
-use native.Mathlib.Omega.{arith}
-use Rattle.coding.specs.Rows.{rowAt}
-use Rattle.line.proofs.TableLaws.{FilledTo, filled-first, filled-next, filled-all}
 use Rattle.coding.proofs.rows_in.Statement.{statement}
 use Rattle.coding.proofs.rows_in.Tie as tie
 
-abbrev Inv-loop : tie.InvT-loop
-Inv-loop k rows₀ i₀ rows i = (i ≤ 16) × FilledTo (rowAt k) 0 i rows
-
-abbrev μ-loop : tie.MeasureT-loop
-μ-loop k rows₀ i₀ rows i = 16 - i
-
-row-at-requires : tie.Need-row-at-requires Inv-loop μ-loop
+row-at-requires : tie.Need-row-at-requires
 row-at-requires c κs = search needs
 
-loop-holds : tie.Need-loop-holds Inv-loop μ-loop
-loop-holds c = (omega arith, filled-first (rowAt (c .before .args .c)) 0 _ (c .row-at .ensures))
-
-row-at-requires-2 : tie.Need-row-at-requires-2 Inv-loop μ-loop
+row-at-requires-2 : tie.Need-row-at-requires-2
 row-at-requires-2 c κs = search needs
 
-array-write-rows : tie.Need-array-write-rows Inv-loop μ-loop
-array-write-rows c = search needs
+row-at-requires-3 : tie.Need-row-at-requires-3
+row-at-requires-3 c κs = search needs
 
-add-i : tie.Need-add-i Inv-loop μ-loop
-add-i c = search needs
+row-at-requires-4 : tie.Need-row-at-requires-4
+row-at-requires-4 c κs = search needs
 
-loop-less : tie.Need-loop-less Inv-loop μ-loop
-loop-less c = search needs
+row-at-requires-5 : tie.Need-row-at-requires-5
+row-at-requires-5 c κs = search needs
 
-loop-again : tie.Need-loop-again Inv-loop μ-loop
-loop-again c =
-    let l = c .before .before .loop in
-    (omega arith, filled-next (rowAt (c .before .before .before .before .args .c)) 0 (l .i) (c .row-at2 .result) (l .rows) (c .before .loop-test .taken) (l .inv .1) (c .row-at2 .ensures))
+row-at-requires-6 : tie.Need-row-at-requires-6
+row-at-requires-6 c κs = search needs
 
-returns : tie.Need-returns Inv-loop μ-loop
-returns c = let l = c .before .loop in filled-all _ 0 (l .i) (l .rows) (c .loop-test .left) (l .inv .1)
+row-at-requires-7 : tie.Need-row-at-requires-7
+row-at-requires-7 c κs = search needs
+
+row-at-requires-8 : tie.Need-row-at-requires-8
+row-at-requires-8 c κs = search needs
+
+row-at-requires-9 : tie.Need-row-at-requires-9
+row-at-requires-9 c κs = search needs
+
+row-at-requires-10 : tie.Need-row-at-requires-10
+row-at-requires-10 c κs = search needs
+
+row-at-requires-11 : tie.Need-row-at-requires-11
+row-at-requires-11 c κs = search needs
+
+row-at-requires-12 : tie.Need-row-at-requires-12
+row-at-requires-12 c κs = search needs
+
+row-at-requires-13 : tie.Need-row-at-requires-13
+row-at-requires-13 c κs = search needs
+
+row-at-requires-14 : tie.Need-row-at-requires-14
+row-at-requires-14 c κs = search needs
+
+row-at-requires-15 : tie.Need-row-at-requires-15
+row-at-requires-15 c κs = search needs
+
+row-at-requires-16 : tie.Need-row-at-requires-16
+row-at-requires-16 c κs = search needs
+
+returns : tie.Need-returns
+returns c = rows-one-by-one _ _ refl (search needs)
 
 pub rows-in-spec : {M : Type 1} → statement M
 rows-in-spec =
     tie.close
     (tie.spec
-    Inv-loop
-    μ-loop
     row-at-requires
-    loop-holds
     row-at-requires-2
-    array-write-rows
-    add-i
-    loop-less
-    loop-again
+    row-at-requires-3
+    row-at-requires-4
+    row-at-requires-5
+    row-at-requires-6
+    row-at-requires-7
+    row-at-requires-8
+    row-at-requires-9
+    row-at-requires-10
+    row-at-requires-11
+    row-at-requires-12
+    row-at-requires-13
+    row-at-requires-14
+    row-at-requires-15
+    row-at-requires-16
     returns)

@@ -19,7 +19,7 @@ use crate::signal::Signal;
 /// timed with each role; a store's other rows do not depend on the role.
 type Row = (&'static str, fn(&str, Signal), bool);
 
-const ROWS: [Row; 19] = [
+const ROWS: [Row; 21] = [
     ("noise: plain against itself", receiving::noise, true),
     ("receive, single", receiving::single, true),
     (
@@ -36,6 +36,16 @@ const ROWS: [Row; 19] = [
     (
         "receive, bulk, noisy sent points",
         receiving::bulk_noisy,
+        true,
+    ),
+    (
+        "receive, bulk, noisy sent points, blocks of 1",
+        receiving::bulk_by_one,
+        true,
+    ),
+    (
+        "receive, bulk, noisy sent points, blocks of 7",
+        receiving::bulk_by_seven,
         true,
     ),
     (

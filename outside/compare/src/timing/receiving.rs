@@ -367,6 +367,26 @@ impl Blocks<'_, f32> {
     }
 }
 
+/// Noisy sent points in blocks of so many.
+fn small_blocks(name: &str, signal: Signal, size: usize) {
+    let blocks = Blocks {
+        signal,
+        numbers: &points::flat(&input::noisy(signal.mode, POINTS)),
+        size,
+        gaps: false,
+    };
+    call_row(name, signal, POINTS, blocks.work());
+}
+
+pub fn bulk_by_one(name: &str, signal: Signal) {
+    small_blocks(name, signal, 1);
+}
+
+/// As a listing takes the points of a record.
+pub fn bulk_by_seven(name: &str, signal: Signal) {
+    small_blocks(name, signal, 7);
+}
+
 fn bulk_row(name: &str, signal: Signal, points: &[Point], gaps: bool, tuned: ReceiveBlock) {
     let blocks = Blocks {
         signal,
