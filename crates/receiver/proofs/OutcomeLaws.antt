@@ -1,6 +1,6 @@
 -- What the public functions hand back says the answer, place and state of the rules; and the ways that their code takes lead to it.
 -- Assumes nothing.
-use Prim.Native.Nat.{ℕ, zero, suc, _+_, _-_, _<_, _≤_}
+use Prim.Native.Nat.{ℕ, zero, suc, _+_, _-_, _%_, _^_, _<_, _≤_, min}
 use mathlib.Core.Path.{_≡_, refl, sym, _∙_, ap, subst}
 use mathlib.Core.Bool.{Bool, true, false, _&&_, cond}
 use mathlib.Core.List.{List, [], _∷_}
@@ -9,7 +9,7 @@ use borrow.Author.Tests.{le-leb, lt-leb}
 use lib.IntN.{ℤ}
 use lib.Dec.{eqb}
 use Rattle.line.specs.declared.Point.{Point}
-use Rattle.line.specs.Mode.{isState, width, capacity, face}
+use Rattle.line.specs.Mode.{column, isState, width, guarded, capacity, face}
 use Rattle.line.specs.Point.{at, inRange}
 use Rattle.deciding.specs.Decide.{Region, State, Origin, decide}
 use Rattle.coding.specs.Code.{group}
@@ -20,7 +20,7 @@ use Rattle.scrambler.specs.declared.Descrambled.{Descrambled}
 use Rattle.scrambler.specs.Register.{register, fresh, registerOk}
 use Rattle.scrambler.specs.Scramble.{Datum}
 use Rattle.scrambler.specs.Group.{descrambled}
-use Rattle.scrambler.proofs.GroupLaws.{group-read}
+use Rattle.scrambler.proofs.GroupLaws.{group-read, next-law, fill-law}
 use Rattle.deciding.specs.declared.SquaredUnits.{SquaredUnits}
 use Rattle.deciding.specs.declared.Decision.{Decision}
 use Rattle.deciding.specs.declared.Decision.the-variants.{State as DecidedAs, Origin as AtOrigin}
@@ -138,6 +138,16 @@ module _ (s : Receiver) (f : ℕ) (e : f ≡ modeRefusal (s .mode) (s .role)) wh
 -- a full register
 pub full-register : (m role g full : ℕ) (h : Register) (d : Descrambled) → full ≡ capacity m → h .held .0 ≡ full → d ≡ descrambled m role (register (h .bits) (capacity m) (h .count .0)) g → d ≡ descrambled m role h g
 full-register m role g full h d e f q = q ∙ ap (λ (n : ℕ). descrambled m role (register (h .bits) n (h .count .0)) g) (sym (f ∙ e))
+
+-- and one that is not full, without the guard: the bits as after a full one, of the data bits the first ones unsettled
+pub filling-register : (m role g : ℕ) (h : Register) (d : Descrambled) (p u k : ℕ) → guarded m ≡ false → d ≡ descrambled (column m) role (register (h .bits) (capacity (column m)) 0) g
+    → p ≡ d .plain % 2 ^ (width m - min (capacity m - h .held .0) (width m)) → u ≡ min (capacity m - h .held .0) (width m) → k ≡ min (h .held .0 + width m) (capacity m)
+    → _≡_ {A = Descrambled} (record { plain = p; unsettled = record { 0 = u }; next = register (d .next .bits) k (d .next .count .0) }) (descrambled m role h g)
+filling-register m role g h d p u k f e ep eu ek =
+    let q = next-law m role (h .bits) 0 g d e f in
+    let plain = ep ∙ ap (λ (v : Descrambled). v .plain % 2 ^ (width m - min (capacity m - h .held .0) (width m))) q in
+    (λ i. record { plain = plain i; unsettled = record { 0 = eu i }; next = register (q i .next .bits) (ek i) (q i .next .count .0) })
+    ∙ sym (fill-law m role (h .bits) (h .held .0) 0 (h .count .0) g f)
 
 -- no room, and room
 module _ (s : Receiver) (n : ℕ) (r : Outcome) where

@@ -140,24 +140,31 @@ fn by_fields(d: Descrambled) -> Descrambled
     }
 }
 
-// The data bits of w line bits. Nearly always the register is full, and no line bits are to be counted.
+// The data bits of w line bits. Nearly always the register is full, and no line bits are to be counted. Where there is no guard, one that
+// is not full has zeros beyond its bits: what it gives is what a full one would, and then some data bits are unsettled.
 fn descramble(mode: u8, role: u8, h: Register, line: u8) -> Descrambled
     ensures { λ r. ⌜ r ≡ descrambled mode role h line ⌝ }
 {
-    if h.held.0 != line::capacity_of(mode) {
-        return by_fields(scrambler::descramble_group(
-            mode,
-            role,
-            h.bits,
-            h.held.0,
-            h.count.0,
-            line,
-        ));
-    }
+    let held = h.held.0;
     if line::has_guard(mode) {
-        return by_fields(scrambler::descramble_counted(mode, role, h.bits, h.count.0, line));
+        if held == line::capacity_of(mode) {
+            return by_fields(scrambler::descramble_counted(mode, role, h.bits, h.count.0, line));
+        }
+        return by_fields(scrambler::descramble_group(mode, role, h.bits, held, h.count.0, line));
     }
-    scrambler::descramble_next(mode, role, h.bits, line)
+    let d = scrambler::descramble_next(mode, role, h.bits, line);
+    if held == line::capacity_of(mode) {
+        return d;
+    }
+    Descrambled {
+        plain: scrambler::settled_of(mode, held, d.plain),
+        unsettled: BitCount(scrambler::unsettled_of(mode, held)),
+        next: Register {
+            bits: d.next.bits,
+            held: BitCount(scrambler::held_after(mode, held)),
+            count: BitCount(d.next.count.0),
+        },
+    }
 }
 
 // A point decided as the state y at the distance d: y becomes the reference.
