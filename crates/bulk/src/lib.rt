@@ -97,7 +97,7 @@ fn lose(s: Receiver) -> Step
     }
 }
 
-// A point that nothing refuses, after any register. Few points come here, and so it has no tables of its own but the rows.
+// A point that nothing refuses, after any state. Few points come here: so the ring is found for each.
 fn hear(rows: &[u8; 16], s: Receiver, re: i16, im: i16) -> Step
     requires { ⌜ Rows (s .mode) (now rows) × (refusal s (point (at re im)) ≡ 0) ⌝ }
     ensures { λ r. ⌜ r ≡ step (answer s (point (at re im))) (next s (point (at re im))) ⌝ }
