@@ -132,6 +132,7 @@ fn full_bits(mode: u8, role: u8, bits: u32, count: u8, line: u8) -> Descrambled
     scrambler::descramble_next(mode, role, bits, line)
 }
 
+// A point after the reference x and a full register.
 fn settled_in(
     mode: u8,
     rows: &[u8; 16],
@@ -231,8 +232,8 @@ fn later(s: Receiver, x: u8, bits: u32, held: u8, count: u8, i: usize) -> Receiv
 }
 
 // Points that nothing refuses, from point `from` up to an origin or the end, after a reference and, with the guard, a full register. Where
-// there is no guard a register that is not full has zeros beyond its bits, so that a point is read as after a full one, and then some of
-// its data bits are unsettled. Nearly all points come through this loop; all that it calls is put in line.
+// there is no guard a point is read as after a full register in any case: how many line bits are held changes none of the bits, only which
+// data bits are settled. Nearly all points come through this loop; all that it calls is put in line.
 fn hear_run(
     rows: &[u8; 16],
     s: Receiver,

@@ -140,8 +140,8 @@ fn by_fields(d: Descrambled) -> Descrambled
     }
 }
 
-// The data bits of w line bits. Nearly always the register is full, and no line bits are to be counted. Where there is no guard, one that
-// is not full has zeros beyond its bits: what it gives is what a full one would, and then some data bits are unsettled.
+// The data bits of w line bits. Nearly always the register is full, and no line bits are to be counted. Where there is no guard, how many
+// line bits are held changes none of the bits, only which data bits are settled.
 fn descramble(mode: u8, role: u8, h: Register, line: u8) -> Descrambled
     ensures { λ r. ⌜ r ≡ descrambled mode role h line ⌝ }
 {
