@@ -101,7 +101,7 @@ pub fn send(state: &mut [u8], input: &[u8], out: &mut [i16], offset: usize) -> u
     ensures { λ r. ⌜ (r ≡ sendNumber (now (state .entry)) (now (input .entry)) (now (out .entry)) offset) × (now (state .exit) ≡ sendState (now (state .entry)) (now (input .entry)) (now (out .entry)) offset) × (now (out .exit) ≡ sendOut (now (state .entry)) (now (input .entry)) (now (out .entry)) offset) ⌝ }
 {
     if state.len() < 16 {
-        return line::need(sender::are_bits(input), 5, 7);
+        return line::need(bits::are_bits(input), 5, 7);
     }
     let sent = sender::send(load_sender(state), input, out, offset);
     put_sent(state, sent)

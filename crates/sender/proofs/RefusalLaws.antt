@@ -1,15 +1,13 @@
 -- What the functions that refuse compute, and what no refusal says and needs. Assumes nothing.
 use Prim.Native.Nat.{ℕ, _+_, _*_, _-_, _/_, _%_, _<_, _≤_}
 use mathlib.Core.Path.{_≡_, sym, _∙_, ap}
-use mathlib.Core.Bool.{Bool, false, _&&_, and-assoc, and-true}
+use mathlib.Core.Bool.{false}
 use mathlib.Core.List.{List}
-use native.Mathlib.Numerals.{add-one}
 use native.Mathlib.Omega.{arith}
 use native.Mathlib.Decide.{decLe}
 use borrow.Author.Tests.{le-leb, lt-leb}
-use lib.Dec.{T, leb, ltb, eqb, leb→le, eqb→eq}
-use lib.ListN.{length, getD, drop, drop-of-length-le}
-use lib.Seq.{drop-cons}
+use lib.Dec.{T, leb, eqb, leb→le, eqb→eq}
+use lib.ListN.{length}
 use Rattle.line.specs.Table.{every}
 use Rattle.line.specs.Mode.{isMode, isRole, width}
 use Rattle.line.proofs.RefusalLaws.{need-met, need-rest, next-first, next-rest, state-met, state-free}
@@ -30,18 +28,6 @@ room-left n len off h = go (decLe n ((len - off) / 2))
     go : Dec (n ≤ (len - off) / 2) → leb n ((len - off) / 2) ≡ leb (off + 2 * n) len
     go (yes k) = le-leb n ((len - off) / 2) k ∙ sym (le-leb (off + 2 * n) len (omega arith))
     go (no k) = lt-leb n ((len - off) / 2) (omega (arith, k)) ∙ sym (lt-leb (off + 2 * n) len (omega (arith, k)))
-
--- whether each byte is a bit: those before the i-th, and those from it on
-module _ (xs : List ℕ) (i : ℕ) (a b : Bool) (e : (a && every isBit (drop i xs)) ≡ b) where
-  pub bits-go : i < length xs → ((a && ltb (getD xs i 0) 2) && every isBit (drop (i + 1) xs)) ≡ b
-  unfolding isBit
-  bits-go h =
-      let rest : List ℕ = drop (i + 1) xs in
-      let step : every isBit (drop i xs) ≡ (isBit (getD xs i 0) && every isBit rest) = rw (add-one, drop-cons xs i 0) in
-      and-assoc a (ltb (getD xs i 0) 2) (every isBit rest) ∙ sym (ap (λ (t : Bool). a && t) step) ∙ e
-
-  pub bits-end : length xs ≤ i → a ≡ b
-  bits-end h = sym (and-true a) ∙ sym (ap (λ (l : List ℕ). a && every isBit l) (drop-of-length-le xs h)) ∙ e
 
 -- WHAT NO REFUSAL SAYS
 

@@ -47,19 +47,6 @@ fn state_refusal(s: Sender) -> u8
     )
 }
 
-// Whether each byte is a bit. All are read, even after one that is not, so that many can be tested at once.
-pub fn are_bits(input: &[u8]) -> bool
-    ensures { λ r. ⌜ r ≡ every isBit (now (input .entry)) ⌝ }
-{
-    let mut all = true;
-    let mut i = 0;
-    while i < input.len() {
-        all = all & (input[i] < 2);
-        i += 1;
-    }
-    all
-}
-
 // Whether the points fit from the offset on.
 fn has_room(points: usize, len: usize, offset: usize) -> bool
     ensures { λ r. ⌜ r ≡ hasRoom points len offset ⌝ }
@@ -77,7 +64,7 @@ fn data_refusal(mode: u8, input: &[u8], len: usize, offset: usize) -> u8
     let w = line::width_of(mode) as usize;
     let room = line::need(has_room(input.len() / w, len, offset), 7, 0);
     line::need(
-        are_bits(input),
+        bits::are_bits(input),
         5,
         line::need(input.len() % w == 0, 6, room),
     )

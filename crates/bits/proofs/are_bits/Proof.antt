@@ -5,9 +5,9 @@ use borrow.Author.Needs.{needs}
 use lib.ListN.{length, drop}
 use Rattle.line.specs.Table.{every}
 use Rattle.scrambler.specs.Bits.{isBit}
-use Rattle.sender.proofs.RefusalLaws.{bits-go, bits-end}
-use Rattle.sender.proofs.are_bits.Statement.{statement}
-use Rattle.sender.proofs.are_bits.Tie as tie
+use Rattle.bits.proofs.Loops.{bits-go, bits-end}
+use Rattle.bits.proofs.are_bits.Statement.{statement}
+use Rattle.bits.proofs.are_bits.Tie as tie
 
 abbrev Inv-loop : tie.InvT-loop
 Inv-loop input all₀ i₀ all i = (i ≤ length input) × ((all && every isBit (drop i input)) ≡ every isBit input)

@@ -1,0 +1,9 @@
+pub mod PolynomialLaws
+pub mod RunLaws
+pub mod ProductLaws
+pub mod Theorems
+pub mod RegisterLaws
+pub mod EightLaws
+pub mod Loops
+pub mod Answers
+pub mod Examples

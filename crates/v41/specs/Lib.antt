@@ -1,0 +1,4 @@
+pub mod Polynomial
+pub mod Block
+pub mod Laws
+pub mod Register
