@@ -1,13 +1,13 @@
 /*
- * The line recorder's symbol codec: receiver, sender and track store, over bytes and numbers that the caller lends.
+ * The line recorder's symbol codec: receiver, sender, track store and V.41 blocks, over bytes and numbers that the caller lends.
  *
  * Every function is total: it takes any numbers and any lent bytes. A lent slice is a pointer and a count of elements; the
  * pointer must be valid for that count, and two slices of one call must not overlap. Where a count is 0 the pointer is not
  * read, but must not be null.
  *
  * Each function returns 0, or the number of the refusal. A refusal leaves every lent byte and number as it was; of several
- * that apply, the first in the order of this list is given, in which 18 stands between 7 and 8. The table over each function
- * has its numbers in that order and what they are about there. All numbers:
+ * that apply, the first in the order of this list is given, in which 19 stands before 5, and 18 between 7 and 8. The table over
+ * each function has its numbers in that order and what they are about there. All numbers:
  *
  *    1  mode not 1 to 6, a handed-in state's included
  *    2  role not one of the mode's, a state's included
@@ -15,11 +15,13 @@
  *    4  a handed-in state with another field outside its range: a reference that is no state of the mode, more than R line
  *       bits, in a sender fewer than R, in a receiver any without a reference; a guard's count above 33, or above zero in modes
  *       1 to 4 or with fewer than 12 line bits; or a byte that is not as its layout has it
- *    5  a data byte above 1
+ *   19  bits that are not as many as a V.41 block has, or to make one 16 fewer
+ *    5  a data byte above 1, or one of a V.41 block
  *    6  data bits not a multiple of w (none is fine)
  *    7  lent numbers too few from the offset, or an offset past their end; also fewer lent bytes than a state, an answer, a
- *       block or a listing has, fewer lent numbers than a block has distances or a track has sums, no lent number for a count,
- *       and an odd count of the numbers or floats of points
+ *       block, a listing, a run of settled bits or a V.41 block has, fewer lent numbers than a block has distances or a track has
+ *       sums, no lent number for a count and no lent byte for a verdict, an odd count of the numbers or floats of points, and line
+ *       bytes and data bytes that are not equally many
  *   18  a coordinate in levels, or a power, that is NaN or infinite
  *    8  a coordinate outside -16384 to 16384; one in levels after rounding
  *    9  a gap, a hole, or a lost count to append, of 0
@@ -291,6 +293,50 @@ uint8_t kerambiu_list(const uint8_t *store, size_t store_len, uint8_t *out, size
  *   11 to 15  the store
  */
 uint8_t kerambiu_sums(const uint8_t *store, size_t store_len, uint64_t *sums, size_t sums_len);
+
+/*
+ * From received points to the data bits of a block protocol: takes the bytes that kerambiu_receive_points or
+ * kerambiu_receive_level_points wrote, one of `line` and one of `plain` for each point, and writes the settled data bits of the first
+ * run among them into `out`, one in a byte, first in time first. A run begins at the first point with a settled data bit and goes on
+ * over the points after it whose data bits are all settled; it ends at a gap or with the bytes given. An unsettled bit is never
+ * handed over, and no bit between two of a run is missing. For the next run call again with the bytes from point run[0] + run[1] on.
+ * A gap that was given by a call of its own stands in no byte: bytes from before and after it may stand together, since the point
+ * after it is a KERAMBIU_REFERENCE, and ends the run.
+ *   run[0]    the point at which the run begins, counted from 0; the count of points if there is none
+ *   run[1]    how many points it has
+ *   run[2]    how many settled data bits, w for each point; in the first point the w * run[1] - run[2] first bits are unsettled, and
+ *             are not among them
+ * Bytes that no call wrote are read so: a line byte below 16 is a point with w data bits, of which the first plain / 16, at most w,
+ * are unsettled and the others are the lowest bits of plain; any other line byte is a point without data bits.
+ *    1        the mode
+ *    7        not as many bytes in `plain` as in `line`; fewer bytes in `out` than the run has bits; fewer than three numbers in `run`
+ */
+uint8_t kerambiu_settled_bits(uint8_t mode, const uint8_t *line, size_t line_len, const uint8_t *plain, size_t plain_len,
+                              uint8_t *out, size_t out_len, size_t *run, size_t run_len);
+
+/*
+ * A V.41 block is 260, 500, 980 or 3860 bits, one in a byte: four service bits and the information, then 16 check bits. The whole,
+ * first bit as highest power, leaves nothing when divided by x^16 + x^12 + x^5 + 1. A block altered only within a run of 16 bits, in
+ * at least one of them, is never taken for a whole one; other alterations can be.
+ */
+#define KERAMBIU_V41_CHECK_BITS 16
+
+/*
+ * Checks a block: whole[0] becomes 1 if it leaves nothing, else 0.
+ *   19        the count of bits
+ *    5        any byte
+ *    7        no byte in `whole`
+ */
+uint8_t kerambiu_v41_check(const uint8_t *bits, size_t bits_len, uint8_t *whole, size_t whole_len);
+
+/*
+ * Makes a block of service and information bits, 244, 484, 964 or 3844 of them: the bits and their check bits stand at the front of
+ * `out`.
+ *   19        the count of bits
+ *    5        any byte
+ *    7        fewer bytes in `out` than 16 more than the bits
+ */
+uint8_t kerambiu_v41_make(const uint8_t *bits, size_t bits_len, uint8_t *out, size_t out_len);
 
 #ifdef __cplusplus
 }

@@ -1,2 +1,4 @@
 pub mod CountedLaws
 pub mod SummingLaws
+pub mod BlocksLaws
+pub mod SettledLaws

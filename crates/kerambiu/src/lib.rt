@@ -2,10 +2,17 @@
 use levels::Levels;
 use listing::Listed;
 use readings::Reading;
+use settled::Taken;
 use store::Readout;
 use summing::Summed;
+use v41::Checked;
+use v41::Made;
 ghost use mathlib.Core.Path.{_≡_};
+ghost use mathlib.Core.List.{[], _∷_};
+ghost use lib.Dec.{leb};
 ghost use lib.ListN.{length as size};
+ghost use lib.Seq.{sets};
+ghost use Rattle.line.specs.Refusal.{need};
 ghost use Rattle.line.specs.Point.{at};
 ghost use Rattle.receiver.specs.Receiver.{point, gap};
 ghost use Rattle.store.specs.Reads.{readNumber, readCount, readResult};
@@ -17,7 +24,9 @@ ghost use Rattle.bulk.specs.Block.{inUnits, inLevels, parts};
 ghost use Rattle.lent_receiver.specs.Receiving.{freshNumber, freshState, callNumber, callState, callAnswer, blockNumber, blockState, blockParts};
 ghost use Rattle.lent_readings.specs.Reading.{readingNumber, readingState, readingBytes};
 ghost use Rattle.lent_sender.specs.Sending.{openNumber, openState, openOut, sendNumber, sendState, sendOut};
+ghost use Rattle.v41.specs.Block.{makeRefusal, makeBytes};
 ghost use Rattle.kerambiu.specs.Summing.{sumsNumber, sumsResult};
+ghost use Rattle.kerambiu.specs.Blocks.{wholeNumber, wholeResult, runNumber, runOut, runResult};
 ghost use Rattle.kerambiu.specs.Counted.{countedNumber, countedOut, countedCounts};
 
 // ---- the receiver's calls
@@ -234,5 +243,67 @@ pub extern "C" fn kerambiu_sums(store: &[u8], sums: &mut [u64]) -> u8
             sums[2] = v.gaps;
             0
         }
+    }
+}
+
+// ---- V.41 blocks
+
+// The settled data bits of the first run in the bytes that kerambiu_receive_points wrote, into `out`, and into `run` the point at which
+// it begins, how many points it has and how many bits: 0, or the number that refuses it.
+#[no_mangle]
+pub extern "C" fn kerambiu_settled_bits(
+    mode: u8,
+    line: &[u8],
+    plain: &[u8],
+    out: &mut [u8],
+    run: &mut [usize],
+) -> u8
+    ensures { λ r. ⌜ (r ≡ runNumber mode (now (line .entry)) (now (plain .entry)) (now (out .entry)) (now (run .entry))) × (now (out .exit) ≡ runOut mode (now (line .entry)) (now (plain .entry)) (now (out .entry)) (now (run .entry))) × (now (run .exit) ≡ runResult mode (now (line .entry)) (now (plain .entry)) (now (out .entry)) (now (run .entry))) ⌝ }
+{
+    if run.len() < 3 {
+        return line::need(line::mode_ok(mode), 1, 7);
+    }
+    let taken = settled::settled_bits(mode, line, plain, out);
+    match taken {
+        Taken::Refused(number) => number,
+        Taken::Found(found) => {
+            run[0] = found.first;
+            run[1] = found.points;
+            run[2] = found.bits;
+            0
+        }
+    }
+}
+
+// Whether a block is accepted, into the first of the lent bytes: 0, or 7 where there is none.
+fn tell_whole(whole: &mut [u8], accepted: u8) -> u8
+    ensures { λ r. ⌜ (r ≡ need (leb 1 (size (now (whole .entry)))) 7 0) × (now (whole .exit) ≡ sets (now (whole .entry)) 0 (accepted ∷ [])) ⌝ }
+{
+    octets::put8(whole, 0, accepted);
+    line::need(1 <= whole.len(), 7, 0)
+}
+
+// Checks a block, and writes 1 for an accepted one or 0 into the first of the lent bytes: 0, or the number that refuses it.
+#[no_mangle]
+pub extern "C" fn kerambiu_v41_check(bits: &[u8], whole: &mut [u8]) -> u8
+    ensures { λ r. ⌜ (r ≡ wholeNumber (now (bits .entry)) (now (whole .entry))) × (now (whole .exit) ≡ wholeResult (now (bits .entry)) (now (whole .entry))) ⌝ }
+{
+    let checked = v41::check(bits);
+    match checked {
+        Checked::Refused(number) => number,
+        Checked::Whole => tell_whole(whole, 1),
+        Checked::Broken => tell_whole(whole, 0),
+    }
+}
+
+// Makes a block of service and information bits at the front of `out`: 0, or the number that refuses it.
+#[no_mangle]
+pub extern "C" fn kerambiu_v41_make(bits: &[u8], out: &mut [u8]) -> u8
+    ensures { λ r. ⌜ (r ≡ makeRefusal (now (bits .entry)) (size (now (out .entry)))) × (now (out .exit) ≡ makeBytes (now (bits .entry)) (now (out .entry))) ⌝ }
+{
+    let made = v41::make(bits, out);
+    match made {
+        Made::Refused(number) => number,
+        Made::Written(_) => 0,
     }
 }

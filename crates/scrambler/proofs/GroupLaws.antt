@@ -91,7 +91,7 @@ marked-unmixed m role (suc u) h (b ∷ bs) e =
     rw (lt-leb (capacity m) (h .held .0) (omega arith))
     (ap (λ (t : List Datum). unsettled ∷ t) (marked-unmixed m role u (push m h b) bs (omega (arith, held-push m h b))))
 
-length-marked : (u : ℕ) (bs : List ℕ) → length (marked u bs) ≡ length bs
+pub length-marked : (u : ℕ) (bs : List ℕ) → length (marked u bs) ≡ length bs
 length-marked u [] = refl
 length-marked zero (b ∷ bs) = ap suc (length-marked zero bs)
 length-marked (suc u) (b ∷ bs) = ap suc (length-marked u bs)

@@ -13,7 +13,7 @@ use Rattle.line.specs.Table.{every}
 use Rattle.line.specs.Refusal.{need, orNext, accepted}
 use Rattle.line.proofs.RefusalLaws.{left-done, left-kept}
 use Rattle.line.proofs.Sets.{sets-then}
-use Rattle.bits.proofs.Parts.{mid-sets}
+use Rattle.bits.proofs.Parts.{part-written}
 use Rattle.scrambler.specs.Bits.{isBit, bits}
 use Rattle.v41.specs.declared.Checked.{Checked}
 use Rattle.v41.specs.declared.Checked.the-variants as Checked
@@ -142,4 +142,4 @@ module _ (g o : List ℕ) (f l n : ℕ) (ef : f ≡ bitsRefusal (length g + 16) 
         written : putMid (length g) (length g + 16 - length g) c v ≡ sets (sets o 0 g) (length g) (checkBits g)
         written =
             ap₂ (λ (x y : List ℕ). putMid (length g) (length g + 16 - length g) x y) ec check
-            ∙ mid-sets (sets o 0 g) (length g) (length g + 16 - length g) (checkBits g) (check-length g ∙ sym sixteen) (omega (arith, length-sets o 0 g, given-room))
+            ∙ part-written (length g) (length g + 16) (sets o 0 g) (checkBits g) (omega arith) (omega (arith, length-sets o 0 g, given-room)) (check-length g ∙ sym sixteen)

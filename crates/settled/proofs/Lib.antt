@@ -1,0 +1,5 @@
+pub mod ByteLaws
+pub mod RunLaws
+pub mod PutLaws
+pub mod CallLaws
+pub mod AnswerLaws

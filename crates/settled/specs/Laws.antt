@@ -1,0 +1,41 @@
+-- What is handed over: the statements, whose proofs are in proofs/RunLaws and proofs/AnswerLaws.
+use Prim.Native.Nat.{ℕ, _+_, _<_}
+use mathlib.Core.Path.{_≡_}
+use mathlib.Core.Logic.{_⊎_}
+use mathlib.Core.List.{List, [], _++_, map}
+use lib.ListN.{length, take, getD, replicate}
+use Rattle.line.specs.Table.{All}
+use Rattle.line.specs.Mode.{width}
+use Rattle.line.specs.declared.Point.{Point}
+use Rattle.scrambler.specs.Scramble.{Datum, unsettled, settled}
+use Rattle.receiver.specs.declared.Receiver.{Receiver}
+use Rattle.receiver.specs.Receiver.{Answer, lost}
+use Rattle.receiver.specs.Calls.{dataOf}
+use Rattle.bulk.specs.Block.{Given, Lent, pointsOf, lineByte, plainByte, answersTo, blockRefusal}
+use Rattle.settled.specs.Run.{dataOfBytes, settledOnes, before, runPoints, runData, runBits}
+
+-- of any bytes: no point before the run has a settled data bit; the data bits of its points are some unsettled ones, fewer than w, and
+-- then those handed over, so that none is missing between two of them and no unsettled one is handed over
+pub record Consecutive (w : ℕ) (line plain : List ℕ) : Type 0 where
+  pub none-before : All (λ (d : List Datum). settledOnes d ≡ []) (take (before (dataOfBytes w line plain)) (dataOfBytes w line plain))
+  pub unsettled-first : ℕ
+  pub fewer : (unsettled-first < w) ⊎ (unsettled-first ≡ 0)
+  pub then-settled : runData (dataOfBytes w line plain) ≡ replicate unsettled-first unsettled ++ map settled (runBits (dataOfBytes w line plain))
+
+abbrev pub AnyBytes : Type 0
+AnyBytes = (w : ℕ) (line plain : List ℕ) → Consecutive w line plain
+
+-- the answer at a place of a list; past its end none is asked for
+abbrev pub answerAt : List Answer → ℕ → Answer
+answerAt xs k = getD xs k (lost 0)
+
+-- of the bytes that `receive_points` wrote for accepted points: they stand for the data bits of the answers, and after the run comes a gap
+-- or nothing more
+pub record OfAnswers (s : Receiver) (ps : List Point) : Type 0 where
+  pub stand-for : dataOfBytes (width (s .mode)) (map lineByte (answersTo s ps)) (map plainByte (answersTo s ps)) ≡ map dataOf (answersTo s ps)
+  pub stops :
+      let ds : List (List Datum) = map dataOf (answersTo s ps) in
+      (before ds + runPoints ds ≡ length ps) ⊎ (answerAt (answersTo s ps) (before ds + runPoints ds) ≡ lost 1)
+
+abbrev pub WrittenBytes : Type 0
+WrittenBytes = (s : Receiver) (g : Given) (n : Lent) → blockRefusal s g n ≡ 0 → OfAnswers s (pointsOf g)
