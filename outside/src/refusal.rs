@@ -1,14 +1,16 @@
-//! Refusal numbers (document 01, "Refusals, by whose doing"; document 02, R-3, R-5
-//! and R-6).
+//! Refusal numbers (document 01, "Refusals, by whose doing"; document 02, R-3 and
+//!
 
 /// The number of a refused call.
 #[derive(Clone, Copy, PartialEq, Eq, Hash, Debug)]
 pub struct Refusal(pub u8);
 
 /// All numbers, those that go before others first. A number that a request adds
-/// stands where the request puts it: 18 after 7 and before 8. Number 10 is not
-/// used any more, and none comes into its place.
-pub const ORDER: [u8; 17] = [1, 2, 3, 4, 5, 6, 7, 18, 8, 9, 11, 12, 13, 14, 15, 16, 17];
+/// stands where the request puts it: 18 after 7 and before 8, 19 before 5. Number
+/// 10 is not used any more, and none comes into its place.
+pub const ORDER: [u8; 18] = [
+    1, 2, 3, 4, 19, 5, 6, 7, 18, 8, 9, 11, 12, 13, 14, 15, 16, 17,
+];
 
 impl Refusal {
     /// Mode not 1 to 6.
@@ -19,6 +21,8 @@ impl Refusal {
     pub const TRAINING_LENGTH: Refusal = Refusal(3);
     /// A handed-in state with another field outside its range.
     pub const STATE_FIELD: Refusal = Refusal(4);
+    /// Bits that are not as many as a V.41 block has, or 16 fewer.
+    pub const BLOCK_SIZE: Refusal = Refusal(19);
     /// A data byte above 1.
     pub const DATA_BYTE: Refusal = Refusal(5);
     /// Data bits not a multiple of w.

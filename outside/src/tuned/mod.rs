@@ -12,6 +12,7 @@ mod send;
 mod serial;
 mod sums;
 mod symbol;
+mod v41;
 
 pub use append::append_points;
 pub use levels::receive_level_points;
@@ -19,3 +20,4 @@ pub use list::{list, LISTING_ROOM};
 pub use receive::{receive_in_passes, receive_points};
 pub use send::send;
 pub use sums::sums;
+pub use v41::{v41_check, v41_make};
