@@ -41,14 +41,14 @@ pub fn make(bits: &[u8], out: &mut [u8]) -> Result<usize, Refusal> {
 }
 
 /// Numbers 19 and 5 of a block.
-pub(crate) fn need_block(bits: &[u8]) -> Result<(), Refusal> {
+fn need_block(bits: &[u8]) -> Result<(), Refusal> {
     need(SIZES.contains(&bits.len()), Refusal::BLOCK_SIZE)?;
     need(bits.iter().all(|&bit| bit <= 1), Refusal::DATA_BYTE)
 }
 
 /// Numbers 19, 5 and 7 of service and information bits and the lent bytes for
 /// their block.
-pub(crate) fn need_message(bits: &[u8], out: &[u8]) -> Result<(), Refusal> {
+fn need_message(bits: &[u8], out: &[u8]) -> Result<(), Refusal> {
     let of_size = |size: &usize| size - CHECK_BITS == bits.len();
     need(SIZES.iter().any(of_size), Refusal::BLOCK_SIZE)?;
     need(bits.iter().all(|&bit| bit <= 1), Refusal::DATA_BYTE)?;

@@ -120,6 +120,29 @@ mod c {
             sums: *mut u64,
             sums_len: usize,
         ) -> u8;
+        pub fn kerambiu_v41_check(
+            bits: *const u8,
+            bits_len: usize,
+            whole: *mut u8,
+            whole_len: usize,
+        ) -> u8;
+        pub fn kerambiu_v41_make(
+            bits: *const u8,
+            bits_len: usize,
+            out: *mut u8,
+            out_len: usize,
+        ) -> u8;
+        pub fn kerambiu_settled_bits(
+            mode: u8,
+            line: *const u8,
+            line_len: usize,
+            plain: *const u8,
+            plain_len: usize,
+            out: *mut u8,
+            out_len: usize,
+            run: *mut usize,
+            run_len: usize,
+        ) -> u8;
     }
 }
 
@@ -271,4 +294,34 @@ pub fn list(store: &[u8], out: &mut [u8], count: &mut [usize]) -> u8 {
 pub fn sums(store: &[u8], sums: &mut [u64]) -> u8 {
     let (at, len) = (sums.as_mut_ptr(), sums.len());
     unsafe { c::kerambiu_sums(store.as_ptr(), store.len(), at, len) }
+}
+
+/// 1 in the first byte for a V.41 block that leaves nothing, else 0.
+pub fn v41_check(bits: &[u8], whole: &mut [u8]) -> u8 {
+    let (at, len) = (whole.as_mut_ptr(), whole.len());
+    unsafe { c::kerambiu_v41_check(bits.as_ptr(), bits.len(), at, len) }
+}
+
+/// The V.41 block of service and information bits.
+pub fn v41_make(bits: &[u8], out: &mut [u8]) -> u8 {
+    let (at, len) = (out.as_mut_ptr(), out.len());
+    unsafe { c::kerambiu_v41_make(bits.as_ptr(), bits.len(), at, len) }
+}
+
+/// The settled data bits of the first run in a block of points; where it begins,
+/// its points and its bits stand in `run`.
+pub fn settled_bits(mode: u8, line: &[u8], plain: &[u8], out: &mut [u8], run: &mut [usize]) -> u8 {
+    unsafe {
+        c::kerambiu_settled_bits(
+            mode,
+            line.as_ptr(),
+            line.len(),
+            plain.as_ptr(),
+            plain.len(),
+            out.as_mut_ptr(),
+            out.len(),
+            run.as_mut_ptr(),
+            run.len(),
+        )
+    }
 }

@@ -1,17 +1,18 @@
 //! Compares the proved library with the outside implementation: line, sectors,
-//! receiver, bulk, readings, store, sender, guard, listing, sums; image looks for a
-//! table that the library is not to have. All of them where none is named.
+//! receiver, bulk, readings, store, sender, guard, listing, sums, v41; image looks
+//! for a table that the library is not to have. All of them where none is named.
 
 use std::process::ExitCode;
 
 use compare::{
-    bulk, guard, image, line, listing, readings, receiving, sectors, sending, storing, summing,
+    bulk, guard, image, line, listing, readings, receiving, sectors, sending, settled, storing,
+    summing, v41,
 };
 
 /// What a name compares; whether there was no difference.
 type Part = (&'static str, fn() -> bool);
 
-const PARTS: [Part; 11] = [
+const PARTS: [Part; 12] = [
     ("line", line::compare),
     ("sectors", sectors::compare),
     ("receiver", || receiving::compare(1_200_000)),
@@ -23,6 +24,7 @@ const PARTS: [Part; 11] = [
     ("listing", || listing::compare(20_000)),
     ("sums", || summing::compare(200_000)),
     ("image", image::compare),
+    ("v41", || v41::compare(1_100) & settled::compare(250)),
 ];
 
 fn main() -> ExitCode {

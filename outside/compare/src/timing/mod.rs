@@ -9,6 +9,7 @@ mod measure;
 mod receiving;
 mod sending;
 mod storing;
+mod v41;
 
 use measure::{measure, Side, Work};
 use table::Table;
@@ -16,10 +17,11 @@ use table::Table;
 use crate::signal::Signal;
 
 /// A row of the table of calls: its name, what times it, and whether it is
-/// timed with each role; a store's other rows do not depend on the role.
+/// timed with each role; a store's other rows and settled bits do not depend on
+/// the role.
 type Row = (&'static str, fn(&str, Signal), bool);
 
-const ROWS: [Row; 21] = [
+const ROWS: [Row; 22] = [
     ("noise: plain against itself", receiving::noise, true),
     ("receive, single", receiving::single, true),
     (
@@ -81,6 +83,7 @@ const ROWS: [Row; 21] = [
     ("read, 2,048 records", storing::read, false),
     ("list, 2,048 records", storing::list, true),
     ("sums, 2,048 records", storing::sums, false),
+    ("settled bits, 4,000 points", v41::settled_bits, false),
 ];
 
 /// A row of the table of points in levels and in whole numbers.
@@ -112,6 +115,7 @@ pub fn once(word: &str) {
     for (name, row) in LEVELS_ROWS.iter().filter(|(name, _)| name.contains(word)) {
         Signal::with_role_0().for_each(|signal| row(name, signal));
     }
+    v41::rows(word);
     growing::rows(word);
 }
 

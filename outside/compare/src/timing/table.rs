@@ -10,20 +10,22 @@ const RUNS: usize = 5;
 pub enum Table {
     Calls,
     Levels,
+    V41,
     Blocks,
     Stores,
     Smallest,
 }
 
-use Table::{Blocks, Calls, Levels, Smallest, Stores};
+use Table::{Blocks, Calls, Levels, Smallest, Stores, V41};
 
 impl Table {
-    const ALL: [Table; 5] = [Calls, Levels, Blocks, Stores, Smallest];
+    const ALL: [Table; 6] = [Calls, Levels, V41, Blocks, Stores, Smallest];
 
     fn name(self) -> &'static str {
         match self {
             Calls => "calls",
             Levels => "levels",
+            V41 => "v41",
             Blocks => "blocks",
             Stores => "stores",
             Smallest => "smallest",
@@ -36,6 +38,7 @@ impl Table {
             Levels => {
                 "Points in levels and the same in whole numbers, both by the proved library, role 0"
             }
+            V41 => "V.41 blocks: plain is a shift register that takes bit by bit, tuned takes eight at once",
             Blocks => "How time grows: receive_points, noisy sent points, role 0",
             Stores => "How time grows: stores of mode 4, filled with points",
             Smallest => "The smallest calls: what a call takes however little it does",
@@ -58,6 +61,16 @@ impl Table {
             Levels => (
                 &["call", "mode"],
                 &["levels, ns a point", "whole, ns a point", "levels : whole"],
+            ),
+            V41 => (
+                &["call"],
+                &[
+                    "proved, ns a bit",
+                    "plain, ns a bit",
+                    "tuned, ns a bit",
+                    "proved : plain",
+                    "proved : tuned",
+                ],
             ),
             Blocks => (
                 &["mode", "points"],
