@@ -45,55 +45,48 @@ impl Table {
         }
     }
 
-    /// The heads of the columns: those that name a row, and those of figures.
-    fn heads(self) -> (&'static [&'static str], &'static [&'static str]) {
+    /// The heads of the columns that name a row.
+    fn names(self) -> &'static [&'static str] {
         match self {
-            Calls => (
-                &["call", "mode", "role"],
-                &[
-                    "proved, ns a point",
-                    "plain, ns a point",
-                    "tuned, ns a point",
-                    "proved : plain",
-                    "proved : tuned",
-                ],
-            ),
-            Levels => (
-                &["call", "mode"],
-                &["levels, ns a point", "whole, ns a point", "levels : whole"],
-            ),
-            V41 => (
-                &["call"],
-                &[
-                    "proved, ns a bit",
-                    "plain, ns a bit",
-                    "tuned, ns a bit",
-                    "proved : plain",
-                    "proved : tuned",
-                ],
-            ),
-            Blocks => (
-                &["mode", "points"],
-                &[
-                    "proved, ns a call",
-                    "proved, ns a point",
-                    "tuned, ns a call",
-                    "tuned, ns a point",
-                ],
-            ),
-            Stores => (
-                &["call", "records"],
-                &[
-                    "proved, ns a call",
-                    "proved, ns a record",
-                    "tuned, ns a call",
-                    "tuned, ns a record",
-                ],
-            ),
-            Smallest => (
-                &["call", "mode"],
-                &["proved, ns a call", "plain, ns a call", "tuned, ns a call"],
-            ),
+            Calls => &["call", "mode", "role"],
+            Levels | Smallest => &["call", "mode"],
+            V41 => &["call"],
+            Blocks => &["mode", "points"],
+            Stores => &["call", "records"],
+        }
+    }
+
+    /// The heads of the columns of figures.
+    fn figures(self) -> &'static [&'static str] {
+        match self {
+            Calls => &[
+                "proved, ns a point",
+                "plain, ns a point",
+                "tuned, ns a point",
+                "proved : plain",
+                "proved : tuned",
+            ],
+            Levels => &["levels, ns a point", "whole, ns a point", "levels : whole"],
+            V41 => &[
+                "proved, ns a bit",
+                "plain, ns a bit",
+                "tuned, ns a bit",
+                "proved : plain",
+                "proved : tuned",
+            ],
+            Blocks => &[
+                "proved, ns a call",
+                "proved, ns a point",
+                "tuned, ns a call",
+                "tuned, ns a point",
+            ],
+            Stores => &[
+                "proved, ns a call",
+                "proved, ns a record",
+                "tuned, ns a call",
+                "tuned, ns a record",
+            ],
+            Smallest => &["proved, ns a call", "plain, ns a call", "tuned, ns a call"],
         }
     }
 
@@ -110,7 +103,7 @@ impl Table {
 
     /// Prints the table of several runs.
     fn print(self, runs: &[Vec<String>]) {
-        let (names, figures) = self.heads();
+        let (names, figures) = (self.names(), self.figures());
         let heads = [names, figures].concat();
         let rows: Vec<Vec<Vec<&str>>> = runs.iter().map(|run| self.rows(run)).collect();
         if rows[0].is_empty() {
