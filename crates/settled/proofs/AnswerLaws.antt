@@ -8,7 +8,7 @@ use mathlib.Core.Logic.{_⊎_, inl, inr, ⊎-elim}
 use native.Mathlib.Omega.{arith}
 use borrow.Author.Tests.{leb-true, lt-ltb, le-leb, eq-eqb}
 use lib.Dec.{leb, leb→le}
-use lib.ListN.{length, drop}
+use lib.ListN.{length, take, drop}
 use Rattle.line.specs.declared.Point.{Point}
 use Rattle.line.specs.Mode.{width, capacity, face}
 use Rattle.line.specs.Refusal.{accepted}
@@ -32,11 +32,12 @@ use Rattle.receiver.specs.declared.Reference.{Reference}
 use Rattle.receiver.specs.declared.Reference.the-variants.{Nothing as none, State as some}
 use Rattle.receiver.specs.declared.Receiver.{Receiver}
 use Rattle.receiver.specs.Receiver.{point, Answer, refused, reference, decoded, lost, refusal, hasRoom, stateRefusal, lineBits, stateAnswer, pointAnswer, eventAnswer, answer, stateLine, stateNext, pointNext, eventNext, next}
-use Rattle.receiver.specs.Calls.{EachAccepted, answers, dataOf}
+use Rattle.line.proofs.TableLaws.{map-take, map-drop}
+use Rattle.receiver.specs.Calls.{EachAccepted, answers, dataOf, row}
 use Rattle.receiver.proofs.CallLaws.{heard-accepted, same-next}
 use Rattle.bulk.specs.Block.{Given, Lent, pointsOf, lineByte, plainByte, answersTo, lentOk, blockRefusal}
 use Rattle.bulk.proofs.BlockLaws.{just-when}
-use Rattle.settled.specs.Run.{dataIn, dataOfBytes, settledOnes, anySettled, allSettled, before, following, pointsFrom, runPoints}
+use Rattle.settled.specs.Run.{dataIn, dataOfBytes, settledOnes, anySettled, allSettled, before, following, pointsFrom, runPoints, runData, runBits}
 use Rattle.settled.specs.Laws.{answerAt, WrittenBytes}
 use Rattle.settled.proofs.ByteLaws.{data-there}
 
@@ -224,9 +225,15 @@ block-place s g n z =
     omega arith
 
 pub written-bytes : WrittenBytes
+unfolding runBits runData
 written-bytes s g n z =
     let q : EachAccepted s (map point (pointsOf g)) = just-when s g n (block-place s g n z) .0 z .3 in
+    let e = stand-for (width (s .mode)) s (pointsOf g) refl q in
+    let ds : List (List Datum) = map dataOf (answersTo s (pointsOf g)) in
     record {
-      stand-for = stand-for (width (s .mode)) s (pointsOf g) refl q;
+      stand-for = e;
+      in-order = ap runBits e
+          ∙ ap (λ (l : List (List Datum)). settledOnes (row l))
+          (sym (map-take dataOf (runPoints ds) (drop (before ds) (answersTo s (pointsOf g))) ∙ ap (take (runPoints ds)) (map-drop dataOf (before ds) (answersTo s (pointsOf g)))));
       stops = ⊎-elim (λ e. inl (e ∙ answers-length s (pointsOf g) q)) (λ e. inr e) (run-ends s (pointsOf g) q);
     }

@@ -1,16 +1,16 @@
--- What is handed over: the statements, whose proofs are in proofs/RunLaws and proofs/AnswerLaws.
+-- What is handed over: the statements, whose proofs are `any-bytes` of proofs/RunLaws and `written-bytes` of proofs/AnswerLaws.
 use Prim.Native.Nat.{ℕ, _+_, _<_}
 use mathlib.Core.Path.{_≡_}
 use mathlib.Core.Logic.{_⊎_}
 use mathlib.Core.List.{List, [], _++_, map}
-use lib.ListN.{length, take, getD, replicate}
+use lib.ListN.{length, take, drop, getD, replicate}
 use Rattle.line.specs.Table.{All}
 use Rattle.line.specs.Mode.{width}
 use Rattle.line.specs.declared.Point.{Point}
 use Rattle.scrambler.specs.Scramble.{Datum, unsettled, settled}
 use Rattle.receiver.specs.declared.Receiver.{Receiver}
 use Rattle.receiver.specs.Receiver.{Answer, lost}
-use Rattle.receiver.specs.Calls.{dataOf}
+use Rattle.receiver.specs.Calls.{dataOf, row}
 use Rattle.bulk.specs.Block.{Given, Lent, pointsOf, lineByte, plainByte, answersTo, blockRefusal}
 use Rattle.settled.specs.Run.{dataOfBytes, settledOnes, before, runPoints, runData, runBits}
 
@@ -29,10 +29,14 @@ AnyBytes = (w : ℕ) (line plain : List ℕ) → Consecutive w line plain
 abbrev pub answerAt : List Answer → ℕ → Answer
 answerAt xs k = getD xs k (lost 0)
 
--- of the bytes that `receive_points` wrote for accepted points: they stand for the data bits of the answers, and after the run comes a gap
--- or nothing more
+-- of the bytes that `receive_points` wrote for accepted points: they stand for the data bits of the answers; what is handed over are the
+-- settled data bits of the answers to the run's points, in order; and after the run comes a gap or nothing more
 pub record OfAnswers (s : Receiver) (ps : List Point) : Type 0 where
   pub stand-for : dataOfBytes (width (s .mode)) (map lineByte (answersTo s ps)) (map plainByte (answersTo s ps)) ≡ map dataOf (answersTo s ps)
+  pub in-order :
+      let ds : List (List Datum) = map dataOf (answersTo s ps) in
+      runBits (dataOfBytes (width (s .mode)) (map lineByte (answersTo s ps)) (map plainByte (answersTo s ps)))
+      ≡ settledOnes (row (map dataOf (take (runPoints ds) (drop (before ds) (answersTo s ps)))))
   pub stops :
       let ds : List (List Datum) = map dataOf (answersTo s ps) in
       (before ds + runPoints ds ≡ length ps) ⊎ (answerAt (answersTo s ps) (before ds + runPoints ds) ≡ lost 1)

@@ -23,7 +23,7 @@ use Rattle.scrambler.specs.Bits.{isBit}
 use Rattle.octets.specs.Number.{zeros}
 use Rattle.v41.specs.Polynomial.{plus, divided, remainder, product}
 use Rattle.v41.specs.Block.{sizes, isSize, generator, leavesNothing, checkBits, block, bitsRefusal, checkRefusal, checkAnswer, makeRefusal, makeAnswer, makeBytes}
-use Rattle.v41.specs.Laws.{Making, Refusing, Detecting, Dividing, Determining}
+use Rattle.v41.specs.Laws.{Making, Refusing, Detecting, Dividing, Determining, DeterminingAny}
 use Rattle.v41.proofs.PolynomialLaws.{Bits, Zeros, bits-append, bits-zeros, bits-plus, length-plus, plus-apart, divided-linear, divided-length, divided-bits}
 use Rattle.v41.proofs.RunLaws.{lower-bits, plus-at, run-nothing, behind-nothing}
 use Rattle.v41.proofs.ProductLaws.{product-length, product-nothing, quotient, quotient-bits, quotient-is}
@@ -300,9 +300,9 @@ refusing given out n e = go (makeRefusal given (length out)) e
     go (suc m) e = refl
 
 -- no other 16 bits behind the given bits leave nothing
-pub determining : Determining
+pub determining-any : DeterminingAny
 unfolding block checkBits
-determining given c a b l e =
+determining-any given c a b l e =
     take-tail given c (checkBits given)
     (same-within (length given) (length given) (given ++ c) (block given) (bits-append given c p (are-bits c b)) (bits-append given (checkBits given) p (check-bits given p))
     len (len ∙ sym (block-length given)) (omega arith) outside
@@ -321,3 +321,17 @@ determining given c a b l e =
     outside i (inl h) = List·getD-append given c 0 i h ∙ sym (List·getD-append given (checkBits given) 0 i h)
     outside i (inr h) =
         List·getD-eq-default (given ++ c) 0 {n = i} (omega (arith, len)) ∙ sym (List·getD-eq-default (block given) 0 {n = i} (omega (arith, block-length given)))
+
+pub determining : Determining
+determining given c l e =
+    let w = whole-means (given ++ c) e in
+    let p = subst T (sym (w .bits)) tt in
+    determining-any given c (every-left given p) (every-right given p) l (w .nothing-left)
+  where
+    every-left : (xs : List ℕ) → T (every isBit (xs ++ c)) → T (every isBit xs)
+    every-left [] t = tt
+    every-left (x ∷ xs) t = and-intro (isBit x) (every isBit xs) (and-left (isBit x) (every isBit (xs ++ c)) t) (every-left xs (and-right (isBit x) (every isBit (xs ++ c)) t))
+
+    every-right : (xs : List ℕ) → T (every isBit (xs ++ c)) → T (every isBit c)
+    every-right [] t = t
+    every-right (x ∷ xs) t = every-right xs (and-right (isBit x) (every isBit (xs ++ c)) t)

@@ -1,5 +1,5 @@
 -- Document 02, R-7: what is shown of `check` and `make`, "for all four sizes by one argument". The proofs are `making`, `refusing`, `detecting`,
--- `determining` and `dividing` of proofs/Theorems and `worked` of proofs/Examples.
+-- `determining`, `determining-any` and `dividing` of proofs/Theorems and `worked` of proofs/Examples.
 use Prim.Native.Nat.{ℕ, _+_, _≤_, _<_}
 use mathlib.Core.Path.{_≡_}
 use mathlib.Core.Logic.{_⊎_, _↔_}
@@ -45,9 +45,13 @@ pub record NotAccepted (b′ : List ℕ) : Type 0 where
 abbrev pub Detecting : Type 0
 Detecting = (b b′ : List ℕ) → checkAnswer b ≡ Checked.Whole → Altered b b′ → NotAccepted b′
 
--- the check bits are the only 16 bits that leave nothing behind the given ones, so that nobody need believe how they are computed
+-- the check bits are the only ones that make a block accepted, so that nobody need believe how they are computed
 abbrev pub Determining : Type 0
-Determining =
+Determining = (given c : List ℕ) → length c ≡ 16 → checkAnswer (given ++ c) ≡ Checked.Whole → c ≡ checkBits given
+
+-- and of any length the only 16 bits behind the given ones that leave nothing
+abbrev pub DeterminingAny : Type 0
+DeterminingAny =
     (given c : List ℕ) → T (every isBit given) → T (every isBit c) → length c ≡ 16 → leavesNothing (given ++ c) ≡ true → c ≡ checkBits given
 
 -- "leaves nothing when divided" as divisibility: of 16 bits or more it holds of the multiples of the generator and of nothing else
