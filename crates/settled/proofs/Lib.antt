@@ -3,3 +3,4 @@ pub mod RunLaws
 pub mod PutLaws
 pub mod CallLaws
 pub mod AnswerLaws
+pub mod Example

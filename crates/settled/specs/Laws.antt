@@ -1,8 +1,9 @@
--- What is handed over: the statements, whose proofs are `any-bytes` of proofs/RunLaws and `written-bytes` of proofs/AnswerLaws.
+-- What is handed over: the statements, whose proofs are `any-bytes` of proofs/RunLaws, `written-bytes` of proofs/AnswerLaws and `worked`
+-- of proofs/Example.
 use Prim.Native.Nat.{ℕ, _+_, _<_}
 use mathlib.Core.Path.{_≡_}
 use mathlib.Core.Logic.{_⊎_}
-use mathlib.Core.List.{List, [], _++_, map}
+use mathlib.Core.List.{List, [], _∷_, _++_, map}
 use lib.ListN.{length, take, drop, getD, replicate}
 use Rattle.line.specs.Table.{All}
 use Rattle.line.specs.Mode.{width}
@@ -12,7 +13,8 @@ use Rattle.receiver.specs.declared.Receiver.{Receiver}
 use Rattle.receiver.specs.Receiver.{Answer, lost}
 use Rattle.receiver.specs.Calls.{dataOf, row}
 use Rattle.bulk.specs.Block.{Given, Lent, pointsOf, lineByte, plainByte, answersTo, blockRefusal}
-use Rattle.settled.specs.Run.{dataOfBytes, settledOnes, before, runPoints, runData, runBits}
+use Rattle.settled.specs.declared.Taken.the-variants.{Refused, Found}
+use Rattle.settled.specs.Run.{dataOfBytes, settledOnes, before, runPoints, runData, runBits, runAnswer, runBytes}
 
 -- of any bytes: no point before the run has a settled data bit; the data bits of its points are some unsettled ones, fewer than w, and
 -- then those handed over, so that none is missing between two of them and no unsettled one is handed over
@@ -43,3 +45,10 @@ pub record OfAnswers (s : Receiver) (ps : List Point) : Type 0 where
 
 abbrev pub WrittenBytes : Type 0
 WrittenBytes = (s : Receiver) (g : Given) (n : Lent) → blockRefusal s g n ≡ 0 → OfAnswers s (pointsOf g)
+
+-- worked bytes of mode 3: a reference, a point without a settled bit, one with its second bit settled, one with both, and the origin. What
+-- is handed over are three bits of two points, the first of them point 2, into five lent bytes.
+pub record Worked : Type 0 where
+  pub told : runAnswer 3 (16 ∷ 1 ∷ 2 ∷ 3 ∷ 17 ∷ []) (0 ∷ 32 ∷ 17 ∷ 2 ∷ 0 ∷ []) 5 ≡ Found (record { first = 2; points = 2; bits = 3 })
+  pub written : runBytes 3 (16 ∷ 1 ∷ 2 ∷ 3 ∷ 17 ∷ []) (0 ∷ 32 ∷ 17 ∷ 2 ∷ 0 ∷ []) (9 ∷ 9 ∷ 9 ∷ 9 ∷ 9 ∷ []) ≡ 1 ∷ 1 ∷ 0 ∷ 9 ∷ 9 ∷ []
+  pub too-few : runAnswer 3 (16 ∷ 1 ∷ 2 ∷ 3 ∷ 17 ∷ []) (0 ∷ 32 ∷ 17 ∷ 2 ∷ 0 ∷ []) 2 ≡ Refused 7

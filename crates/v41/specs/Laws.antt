@@ -12,7 +12,7 @@ use Rattle.scrambler.specs.Bits.{isBit, bits}
 use Rattle.v41.specs.declared.Checked.the-variants as Checked
 use Rattle.v41.specs.declared.Made.the-variants as Made
 use Rattle.v41.specs.Polynomial.{remainder, product}
-use Rattle.v41.specs.Block.{generator, leavesNothing, checkBits, checkAnswer, makeAnswer, makeBytes}
+use Rattle.v41.specs.Block.{generator, leavesNothing, checkBits, block, checkAnswer, makeAnswer, makeBytes}
 
 -- "what it makes begins with the bits given and is accepted"; "Lent bytes beyond what a call writes .. stay as they were"
 pub record MadeWell (given out : List ℕ) (n : ℕ) : Type 0 where
@@ -71,3 +71,8 @@ pub record Worked : Type 0 where
   pub of-digits : checkBits (bits 72 0x313233343536373839) ≡ bits 16 0x31C3
   -- the printed text, by which the given bits go down to the power 0: what x^16 leaves, behind x^16, is no block that leaves nothing
   pub as-printed : leavesNothing (1 ∷ replicate 16 0 ++ remainder generator (1 ∷ replicate 16 0)) ≡ false
+  -- blocks of 260 bits: 0101, zeros and their check bits; a one and zeros; a byte above 1; and that byte in bits of another size
+  pub whole : checkAnswer (block (0 ∷ 1 ∷ 0 ∷ 1 ∷ replicate 240 0)) ≡ Checked.Whole
+  pub broken : checkAnswer (1 ∷ replicate 259 0) ≡ Checked.Broken
+  pub above-1 : checkAnswer (2 ∷ replicate 259 0) ≡ Checked.Refused 5
+  pub another-size : checkAnswer (2 ∷ replicate 260 0) ≡ Checked.Refused 19
