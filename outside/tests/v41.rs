@@ -1,5 +1,6 @@
 //! V.41 blocks: made, checked, altered.
 
+use outside::mode::modes_and_roles;
 use outside::refusal::{Refusal, ORDER};
 use outside::rng::Rng;
 use outside::tuned;
@@ -261,4 +262,30 @@ fn a_verdict_is_one_byte() {
     assert_eq!(whole, [0, 9, 9]);
     assert_eq!(check_into(&block[1..], &mut whole), Err(Refusal(19)));
     assert_eq!(whole, [0, 9, 9]);
+}
+
+/// What is left of a polynomial when divided by another, power k as bit k.
+fn left(mut of: u32, by: u32) -> u32 {
+    while of.leading_zeros() <= by.leading_zeros() {
+        of ^= by << (by.leading_zeros() - of.leading_zeros());
+    }
+    of
+}
+
+/// V.41, 2: a descrambler multiplies what is altered on the line by its own
+/// polynomial, and that must not bring in a factor of the generator.
+#[test]
+fn no_scrambler_has_a_factor_in_common_with_the_generator() {
+    let generator = GENERATOR.iter().fold(0, |of, &bit| 2 * of + u32::from(bit));
+    for (mode, role) in modes_and_roles() {
+        let near = mode.near_taps[usize::from(role)];
+        let (mut one, mut other) = (
+            generator,
+            1 << mode.far_tap | 1 << (mode.far_tap - near) | 1,
+        );
+        while other != 0 {
+            (one, other) = (other, left(one, other));
+        }
+        assert_eq!(one, 1, "mode {} role {role}", mode.number);
+    }
 }
