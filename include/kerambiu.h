@@ -15,8 +15,8 @@
  *    4  a handed-in state with another field outside its range: a reference that is no state of the mode, more than R line
  *       bits, in a sender fewer than R, in a receiver any without a reference; a guard's count above 33, or above zero in modes
  *       1 to 4 or with fewer than 12 line bits; or a byte that is not as its layout has it
- *   19  bits that are not as many as a V.41 block has, or to make one 16 fewer
- *    5  a data byte above 1, or one of a V.41 block
+ *   19  a count of bits other than 260, 500, 980 or 3860; to make a V.41 block, other than 16 fewer
+ *    5  a byte above 1 among data bits or among the bits of a V.41 block
  *    6  data bits not a multiple of w (none is fine)
  *    7  lent numbers too few from the offset, or an offset past their end; also fewer lent bytes than a state, an answer, a
  *       block, a listing, a run of settled bits or a V.41 block has, fewer lent numbers than a block has distances or a track has
@@ -296,33 +296,37 @@ uint8_t kerambiu_sums(const uint8_t *store, size_t store_len, uint64_t *sums, si
 
 /*
  * From received points to the data bits of a block protocol: takes the bytes that kerambiu_receive_points or
- * kerambiu_receive_level_points wrote, one of `line` and one of `plain` for each point, and writes the settled data bits of the first
- * run among them into `out`, one in a byte, first in time first. A run begins at the first point with a settled data bit and goes on
- * over the points after it whose data bits are all settled; it ends at a gap or with the bytes given. An unsettled bit is never
- * handed over, and no bit between two of a run is missing. For the next run call again with the bytes from point run[0] + run[1] on.
- * A gap that was given by a call of its own stands in no byte: bytes from before and after it may stand together, since the point
- * after it is a KERAMBIU_REFERENCE, and ends the run.
- *   run[0]    the point at which the run begins, counted from 0; the count of points if there is none
- *   run[1]    how many points it has
- *   run[2]    how many settled data bits, w for each point; in the first point the w * run[1] - run[2] first bits are unsettled, and
- *             are not among them
- * Bytes that no call wrote are read so: a line byte below 16 is a point with w data bits, of which the first plain / 16, at most w,
- * are unsettled and the others are the lowest bits of plain; any other line byte is a point without data bits.
+ * kerambiu_receive_level_points wrote, one of `line` and one of `plain` for each point, and writes the settled data bits of the
+ * first run among them into `out`, one in a byte, first in time first. Give as many bytes as there are points: lent bytes beyond
+ * them would be read as points. A run begins at the first point with a settled data bit and goes on over the points after it
+ * whose data bits are all settled; it ends at a gap or with the bytes given. An unsettled bit is never handed over, and no bit
+ * between two of a run is missing. For the next run call again with the bytes from point run[0] + run[1] on. In `out` w bytes
+ * for each point always suffice; bytes beyond run[2], and numbers beyond the three, stay as they are.
+ *   run[0]    the point at which the run begins, counted from 0 at the first byte of this call; the count of points if there is
+ *             none. The place of point k is that of the state before the points were received, plus k.
+ *   run[1]    how many points it has, 0 if there is none
+ *   run[2]    how many settled data bits, w for each point; in the first point the w * run[1] - run[2] first bits are unsettled,
+ *             and are not among them
+ * A gap that was given by a call of its own stands in no byte. The next point is a KERAMBIU_REFERENCE or a KERAMBIU_ORIGIN, and
+ * either ends the run; but where bytes from before and after it are joined, the places after it are further on than their count.
+ * Bytes that no call wrote are read so: a line byte below 16 is a point with w data bits, of which the first plain / 16, at most
+ * w, are unsettled and the others are the lowest bits of plain; any other line byte is a point without data bits.
  *    1        the mode
- *    7        not as many bytes in `plain` as in `line`; fewer bytes in `out` than the run has bits; fewer than three numbers in `run`
+ *    7        not as many bytes in `plain` as in `line`; fewer bytes in `out` than the run has bits; fewer than three numbers in
+ *             `run`
  */
 uint8_t kerambiu_settled_bits(uint8_t mode, const uint8_t *line, size_t line_len, const uint8_t *plain, size_t plain_len,
                               uint8_t *out, size_t out_len, size_t *run, size_t run_len);
 
 /*
- * A V.41 block is 260, 500, 980 or 3860 bits, one in a byte: four service bits and the information, then 16 check bits. The whole,
- * first bit as highest power, leaves nothing when divided by x^16 + x^12 + x^5 + 1. A block altered only within a run of 16 bits, in
- * at least one of them, is never taken for a whole one; other alterations can be.
+ * A V.41 block is 260, 500, 980 or 3860 bits, one in a byte: four service bits and the information, then 16 check bits. The
+ * whole, first bit as highest power, leaves nothing when divided by x^16 + x^12 + x^5 + 1. A whole block altered only within a
+ * run of 16 bits, in at least one of them, is never taken for a whole one; with other alterations it can be.
  */
 #define KERAMBIU_V41_CHECK_BITS 16
 
 /*
- * Checks a block: whole[0] becomes 1 if it leaves nothing, else 0.
+ * Checks a block: whole[0] becomes 1 if it leaves nothing, else 0. Bytes beyond it stay as they are.
  *   19        the count of bits
  *    5        any byte
  *    7        no byte in `whole`
@@ -330,8 +334,8 @@ uint8_t kerambiu_settled_bits(uint8_t mode, const uint8_t *line, size_t line_len
 uint8_t kerambiu_v41_check(const uint8_t *bits, size_t bits_len, uint8_t *whole, size_t whole_len);
 
 /*
- * Makes a block of service and information bits, 244, 484, 964 or 3844 of them: the bits and their check bits stand at the front of
- * `out`.
+ * Makes a block of service and information bits, 244, 484, 964 or 3844 of them: the bits and their check bits stand at the front
+ * of `out`. Bytes beyond them stay as they are.
  *   19        the count of bits
  *    5        any byte
  *    7        fewer bytes in `out` than 16 more than the bits

@@ -25,7 +25,7 @@ enum {
     FIRST = TRAINING + ONES, /* the place of the first block's first point */
     BLOCKS = 12,
     SIZE = 260,              /* bits in a block */
-    MESSAGE = SIZE - 16,
+    MESSAGE = SIZE - KERAMBIU_V41_CHECK_BITS,
     SERVICE = 4,
     CHARACTERS = (MESSAGE - SERVICE) / 8,
     BITS = BLOCKS * SIZE,
@@ -42,7 +42,7 @@ static int16_t points[2 * POINTS];
 static uint8_t store[512 * KERAMBIU_RECORD_BYTES];
 static int64_t events[3 * POINTS];
 
-static uint8_t state[KERAMBIU_STATE_BYTES];
+static uint8_t sender[KERAMBIU_STATE_BYTES], receiver[KERAMBIU_STATE_BYTES];
 static int16_t taken[2 * POINTS];
 static uint8_t line[POINTS], plain[POINTS];
 static uint32_t distance[POINTS];
@@ -64,8 +64,7 @@ static void make_block(unsigned k)
     static const char service[3][SERVICE + 1] = {"0011", "1001", "1100"};
     char text[CHARACTERS + 1];
     uint8_t message[MESSAGE];
-    if (snprintf(text, sizeof text, "record %2u of the line recorder", k) != CHARACTERS)
-        need("text", 255);
+    snprintf(text, sizeof text, "record %2u of the line recorder", k);
     for (unsigned j = 0; j < SERVICE; j++)
         message[j] = service[k % 3][j] == '1';
     for (unsigned j = 0; j < MESSAGE - SERVICE; j++)
@@ -80,9 +79,9 @@ static void send_blocks(void)
         ones[k] = 1;
     for (unsigned k = 0; k < BLOCKS; k++)
         make_block(k);
-    need("open", kerambiu_open(state, sizeof state, MODE, ROLE, THIRD, points, 2 * POINTS, 0));
-    need("send ones", kerambiu_send(state, sizeof state, ones, sizeof ones, points, 2 * POINTS, 2 * TRAINING));
-    need("send blocks", kerambiu_send(state, sizeof state, sent, sizeof sent, points, 2 * POINTS, 2 * FIRST));
+    need("open", kerambiu_open(sender, sizeof sender, MODE, ROLE, THIRD, points, 2 * POINTS, 0));
+    need("send ones", kerambiu_send(sender, sizeof sender, ones, sizeof ones, points, 2 * POINTS, 2 * TRAINING));
+    need("send blocks", kerambiu_send(sender, sizeof sender, sent, sizeof sent, points, 2 * POINTS, 2 * FIRST));
 }
 
 static void damage_point(void)
@@ -108,7 +107,8 @@ static void fill_store(void)
 /* The place in unit intervals of the event that the receiver takes next. */
 static uint32_t place(void)
 {
-    return state[12] | (uint32_t)state[13] << 8 | (uint32_t)state[14] << 16 | (uint32_t)state[15] << 24;
+    const uint8_t *at = receiver + 12;
+    return at[0] | (uint32_t)at[1] << 8 | (uint32_t)at[2] << 16 | (uint32_t)at[3] << 24;
 }
 
 /*
@@ -129,7 +129,7 @@ static void take_points(size_t count)
     uint32_t begin = place();
     size_t from = 0, run[3];
     need("receive points",
-         kerambiu_receive_points(state, sizeof state, taken, 2 * count, line, count, plain, count, distance, count));
+         kerambiu_receive_points(receiver, sizeof receiver, taken, 2 * count, line, count, plain, count, distance, count));
     for (;;) {
         need("settled bits", kerambiu_settled_bits(MODE, line + from, count - from, plain + from, count - from, bits,
                                                    sizeof bits, run, 3));
@@ -143,7 +143,7 @@ static void take_points(size_t count)
 static void take_gap(uint32_t n)
 {
     uint8_t answer[KERAMBIU_ANSWER_BYTES];
-    need("receive gap", kerambiu_receive_gap(state, sizeof state, n, answer, sizeof answer));
+    need("receive gap", kerambiu_receive_gap(receiver, sizeof receiver, n, answer, sizeof answer));
 }
 
 /* Reads the store and takes its events: points one after the other in a block, lost intervals by themselves. */
@@ -151,7 +151,7 @@ static void take_events(void)
 {
     size_t count[1], gathered = 0;
     need("read", kerambiu_read(store, sizeof store, events, 3 * POINTS, 0, count, 1));
-    need("fresh", kerambiu_fresh(state, sizeof state, MODE, ROLE));
+    need("fresh", kerambiu_fresh(receiver, sizeof receiver, MODE, ROLE));
     for (size_t k = 0; k < count[0]; k++) {
         const int64_t *event = events + 3 * k;
         if (event[0] == 1) {

@@ -51,6 +51,11 @@ impl Refusal {
     pub const STORE_FULL: Refusal = Refusal(17);
 }
 
+/// The number of an outcome, 0 where nothing is refused.
+pub fn number<T>(outcome: Result<T, Refusal>) -> u8 {
+    outcome.err().map_or(0, |Refusal(number)| number)
+}
+
 /// Refuses unless the condition is met. A call lists its needs in the order of
 /// numbers, so that of those that apply the first is given.
 pub fn need(met: bool, refusal: Refusal) -> Result<(), Refusal> {

@@ -17,7 +17,7 @@ const X_16: u16 = 1 << 12 | 1 << 5 | 1;
 /// Whether a block leaves nothing when divided by the generator, its first bit as
 /// highest power. Refuses by 19 and 5.
 pub fn check(bits: &[u8]) -> Result<bool, Refusal> {
-    need_block(bits)?;
+    need_bits(bits, bits.len())?;
     Ok(remainder(bits) == [0; CHECK_BITS])
 }
 
@@ -33,26 +33,27 @@ pub fn check_into(bits: &[u8], whole: &mut [u8]) -> Result<(), Refusal> {
 /// bits. Gives its count of bits; lent bytes beyond stay as they are. Refuses by
 /// 19, 5 and 7.
 pub fn make(bits: &[u8], out: &mut [u8]) -> Result<usize, Refusal> {
-    need_message(bits, out)?;
-    let size = bits.len() + CHECK_BITS;
+    let size = need_message(bits, out)?;
     out[..bits.len()].copy_from_slice(bits);
     out[bits.len()..size].copy_from_slice(&check_bits(bits));
     Ok(size)
 }
 
-/// Numbers 19 and 5 of a block.
-fn need_block(bits: &[u8]) -> Result<(), Refusal> {
-    need(SIZES.contains(&bits.len()), Refusal::BLOCK_SIZE)?;
-    need(bits.iter().all(|&bit| bit <= 1), Refusal::DATA_BYTE)
+/// Numbers 19 and 5 of bits that are, or with check bits become, a block of some
+/// size. All bytes are looked at, many at once.
+pub(crate) fn need_bits(bits: &[u8], size: usize) -> Result<(), Refusal> {
+    need(SIZES.contains(&size), Refusal::BLOCK_SIZE)?;
+    let ones = bits.iter().fold(0, |ones, bit| ones | bit);
+    need(ones <= 1, Refusal::DATA_BYTE)
 }
 
 /// Numbers 19, 5 and 7 of service and information bits and the lent bytes for
-/// their block.
-fn need_message(bits: &[u8], out: &[u8]) -> Result<(), Refusal> {
-    let of_size = |size: &usize| size - CHECK_BITS == bits.len();
-    need(SIZES.iter().any(of_size), Refusal::BLOCK_SIZE)?;
-    need(bits.iter().all(|&bit| bit <= 1), Refusal::DATA_BYTE)?;
-    need(out.len() >= bits.len() + CHECK_BITS, Refusal::LENT_NUMBERS)
+/// their block, whose size it gives.
+pub(crate) fn need_message(bits: &[u8], out: &[u8]) -> Result<usize, Refusal> {
+    let size = bits.len() + CHECK_BITS;
+    need_bits(bits, size)?;
+    need(out.len() >= size, Refusal::LENT_NUMBERS)?;
+    Ok(size)
 }
 
 /// What bits of any count leave when divided by the generator, x^15 first: it is
@@ -90,14 +91,13 @@ pub fn remainder_by_register(bits: &[u8]) -> u16 {
 
 /// Gives what `check` gives, by the register.
 pub fn check_by_register(bits: &[u8]) -> Result<bool, Refusal> {
-    need_block(bits)?;
+    need_bits(bits, bits.len())?;
     Ok(remainder_by_register(bits) == 0)
 }
 
 /// Gives and writes what `make` does, by the register.
 pub fn make_by_register(bits: &[u8], out: &mut [u8]) -> Result<usize, Refusal> {
-    need_message(bits, out)?;
-    let size = bits.len() + CHECK_BITS;
+    let size = need_message(bits, out)?;
     out[..bits.len()].copy_from_slice(bits);
     out[bits.len()..size].fill(0);
     let left = remainder_by_register(&out[..size]);

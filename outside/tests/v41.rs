@@ -64,7 +64,7 @@ fn the_generator() {
     assert_eq!(remainder_by_register(&GENERATOR), 0);
 }
 
-/// The pattern of V.41's synchronizing sequence (5.2) is what 0101 leaves.
+/// The pattern of V.41's synchronizing sequence (5.1) is the check bits of 0101.
 #[test]
 fn check_bits_of_the_prefix() {
     assert_eq!(check_bits(&bits("0101")), *bits("0101 0000 1010 0101"));

@@ -2,20 +2,22 @@
 -- nothing.
 use Prim.Native.Nat.{ℕ, suc, _+_, _*_, _^_, _/_, _%_, _<_, _≤_}
 use mathlib.Core.Path.{_≡_, refl, sym, ap, ap₂, _∙_, subst}
-use mathlib.Core.Bool.{Bool, true, false, cond, false≢true}
+use mathlib.Core.Bool.{Bool, true, false, _&&_, cond, false≢true}
 use mathlib.Core.List.{List, [], _∷_, map}
 use mathlib.Core.Logic.{_⊎_, inl, inr, ⊎-elim}
 use native.Mathlib.Omega.{arith}
 use borrow.Author.Tests.{leb-true, lt-ltb, le-leb, eq-eqb}
-use lib.Dec.{leb, leb→le}
-use lib.ListN.{length, take, drop}
+use lib.Dec.{T, eqb, leb, leb→le}
+use lib.ListN.{length, take, drop, length-map}
+use lib.Seq.{sets, sets-eq, take-at}
 use Rattle.line.specs.declared.Point.{Point}
 use Rattle.line.specs.Mode.{width, capacity, face}
 use Rattle.line.specs.Refusal.{accepted}
 use Rattle.line.specs.Table.{every}
 use Rattle.line.specs.Point.{inRange}
 use Rattle.line.proofs.ByMode.{by-all, width-range}
-use Rattle.line.proofs.RefusalLaws.{need-met, need-rest, next-rest}
+use Rattle.line.proofs.RefusalLaws.{need-met, need-rest, next-rest, left-done}
+use Rattle.line.proofs.TableLaws.{and-left, and-right, map-take, map-drop}
 use Rattle.line.proofs.Tests.{by-test, and-join}
 use Rattle.deciding.specs.Decide.{Region, State, Origin, decide}
 use Rattle.deciding.specs.Distance.{distance}
@@ -32,10 +34,9 @@ use Rattle.receiver.specs.declared.Reference.{Reference}
 use Rattle.receiver.specs.declared.Reference.the-variants.{Nothing as none, State as some}
 use Rattle.receiver.specs.declared.Receiver.{Receiver}
 use Rattle.receiver.specs.Receiver.{point, Answer, refused, reference, decoded, lost, refusal, hasRoom, stateRefusal, lineBits, stateAnswer, pointAnswer, eventAnswer, answer, stateLine, stateNext, pointNext, eventNext, next}
-use Rattle.line.proofs.TableLaws.{map-take, map-drop}
 use Rattle.receiver.specs.Calls.{EachAccepted, answers, dataOf, row}
 use Rattle.receiver.proofs.CallLaws.{heard-accepted, same-next}
-use Rattle.bulk.specs.Block.{Given, Lent, pointsOf, lineByte, plainByte, answersTo, lentOk, blockRefusal}
+use Rattle.bulk.specs.Block.{Given, pointsOf, lineByte, plainByte, answersTo, Parts, wrote, Lent, sizes, lentOk, blockRefusal, partsAfter}
 use Rattle.bulk.proofs.BlockLaws.{just-when}
 use Rattle.settled.specs.Run.{dataIn, dataOfBytes, settledOnes, anySettled, allSettled, before, following, pointsFrom, runPoints, runData, runBits}
 use Rattle.settled.specs.Laws.{answerAt, WrittenBytes}
@@ -224,11 +225,43 @@ block-place s g n z =
     let h = leb→le (s .place .0 + length (pointsOf g)) 4294967295 (need-met (leb (s .place .0 + length (pointsOf g)) 4294967295) 15 0 b) in
     omega arith
 
+-- what `receive_points` leaves at the front of the lent bytes
+front : (l vs : List ℕ) (n : ℕ) → length vs ≡ n → n ≤ length l → take n (sets l 0 vs) ≡ vs
+front l vs n e h = ap (take n) (sets-eq vs l 0 (omega arith)) ∙ take-at vs (drop (0 + length vs) l) n e
+
+module _ (s : Receiver) (g : Given) (b : Parts) (z : blockRefusal s g (sizes b) ≡ 0) where
+  accepted-points : EachAccepted s (map point (pointsOf g))
+  accepted-points = just-when s g (sizes b) (block-place s g (sizes b) z) .0 z .3
+
+  room : (length (pointsOf g) ≤ length (b .line)) × (length (pointsOf g) ≤ length (b .plain))
+  unfolding lentOk
+  room =
+      let n : ℕ = length (pointsOf g) in
+      let even : Bool = eqb (length (g .numbers) % 2) 0 in
+      let l : Bool = leb n (length (b .line)) in
+      let p : Bool = leb n (length (b .plain)) in
+      let t : T ((even && l) && p) = and-left ((even && l) && p) (leb n (length (b .distance))) (just-when s g (sizes b) (block-place s g (sizes b) z) .0 z .1) in
+      (leb→le n (length (b .line)) (and-right even l (and-left (even && l) p t)), leb→le n (length (b .plain)) (and-right (even && l) p t))
+
+  written-front : (f : Answer → ℕ) (l : List ℕ) → length (pointsOf g) ≤ length l → take (length (pointsOf g)) (sets l 0 (map f (answersTo s (pointsOf g)))) ≡ map f (answersTo s (pointsOf g))
+  written-front f l h = front l _ (length (pointsOf g)) (length-map (answersTo s (pointsOf g)) f ∙ answers-length s (pointsOf g) accepted-points) h
+
+  after-it : partsAfter s g b ≡ wrote b 0 (answersTo s (pointsOf g))
+  unfolding partsAfter
+  after-it = sym (left-done (blockRefusal s g (sizes b)) (wrote b 0 (answersTo s (pointsOf g))) b z)
+
+  bytes-stand-for : dataOfBytes (width (s .mode)) (take (length (pointsOf g)) (partsAfter s g b .line)) (take (length (pointsOf g)) (partsAfter s g b .plain)) ≡ map dataOf (answersTo s (pointsOf g))
+  bytes-stand-for =
+      ap₂ (dataOfBytes (width (s .mode)))
+      (ap (λ (c : Parts). take (length (pointsOf g)) (c .line)) after-it ∙ written-front lineByte (b .line) (room .0))
+      (ap (λ (c : Parts). take (length (pointsOf g)) (c .plain)) after-it ∙ written-front plainByte (b .plain) (room .1))
+      ∙ stand-for (width (s .mode)) s (pointsOf g) refl accepted-points
+
 pub written-bytes : WrittenBytes
 unfolding runBits runData
-written-bytes s g n z =
-    let q : EachAccepted s (map point (pointsOf g)) = just-when s g n (block-place s g n z) .0 z .3 in
-    let e = stand-for (width (s .mode)) s (pointsOf g) refl q in
+written-bytes s g b z =
+    let q = accepted-points s g b z in
+    let e = bytes-stand-for s g b z in
     let ds : List (List Datum) = map dataOf (answersTo s (pointsOf g)) in
     record {
       stand-for = e;

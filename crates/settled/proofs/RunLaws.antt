@@ -1,10 +1,10 @@
 -- Runs: of any data bits, of any bytes (`any-bytes`), and what the functions find and write (`run-bits`). Assumes nothing.
 use Prim.Native.Nat.{ℕ, zero, suc, _+_, _*_, _-_, _/_, _<_, _≤_}
 use mathlib.Core.Path.{_≡_, refl, sym, ap, ap₂, _∙_, subst}
-use mathlib.Core.Bool.{Bool, true, false, cond}
+use mathlib.Core.Bool.{Bool, true, false, cond, false≢true}
 use mathlib.Core.List.{List, [], _∷_, _++_, map, append-assoc}
 use mathlib.Core.Logic.{_⊎_, inl, inr}
-use native.Mathlib.Nat.{suc-mul}
+use native.Mathlib.Nat.{suc-mul, mul-suc, add-comm}
 use native.Mathlib.Omega.{arith}
 use borrow.Author.Tests.{ltb-true, ltb-false, eqb-true}
 use borrow.Table.Elements.{map-app}
@@ -17,6 +17,7 @@ use Rattle.scrambler.specs.Bits.{bits}
 use Rattle.scrambler.specs.Scramble.{Datum, unsettled, settled}
 use Rattle.scrambler.specs.Group.{marked}
 use Rattle.scrambler.proofs.BitLaws.{length-bits}
+use Rattle.scrambler.proofs.GroupLaws.{length-marked}
 use Rattle.receiver.specs.Calls.{row}
 use Rattle.settled.specs.Run.{dataIn, dataOfBytes, settledOnes, anySettled, allSettled, before, following, pointsFrom, runPoints, runData, runBits}
 use Rattle.settled.specs.Laws.{AnyBytes}
@@ -147,11 +148,58 @@ module _ (w : ℕ) (ds : List (List Datum)) where
             ∙ ap (λ (d : List Datum). replicate (p / 16) unsettled ++ map settled (settledOnes d)) (sym z);
       }
 
+-- a point with a settled data bit has w data bits
+data-length : (w l p : ℕ) → anySettled (dataIn w l p) ≡ true → length (dataIn w l p) ≡ w
+data-length w l p e = go (ltb l 16) refl
+  where
+    go : (b : Bool) → ltb l 16 ≡ b → length (dataIn w l p) ≡ w
+    go true f = ap length (data-there w l p f) ∙ length-marked (p / 16) (bits w p) ∙ length-bits w p
+    go false f =
+        let z : anySettled [] ≡ true = ap (λ (b : Bool). anySettled (cond b (marked (p / 16) (bits w p)) [])) (sym f) ∙ e in
+        absurd (false≢true z)
+
+-- and so has each that follows it in the run
+row-length : (w : ℕ) (d : List Datum) (l : List Datum) (n : ℕ) → length d ≡ w → length l ≡ w * n → length (d ++ l) ≡ w * suc n
+row-length w d l n e f = length-append d l ∙ ap₂ (λ (a b : ℕ). a + b) e f ∙ add-comm w (w * n) ∙ sym (mul-suc w n)
+
+following-length : (w : ℕ) (ls ps : List ℕ) → length (row (take (following (dataOfBytes w ls ps)) (dataOfBytes w ls ps))) ≡ w * following (dataOfBytes w ls ps)
+following-length w [] ps = omega arith
+following-length w (l ∷ ls) [] = omega arith
+following-length w (l ∷ ls) (p ∷ ps) = by-test (allSettled d)
+    (λ e. subst P (sym (ap (λ (b : Bool). cond b (suc (following rest)) 0) e)) (row-length w d _ (following rest) (data-length w l p (and-split (anySettled d) _ e .0)) (following-length w ls ps)))
+    (λ e. subst P (sym (ap (λ (b : Bool). cond b (suc (following rest)) 0) e)) (omega arith))
+  where
+    d : List Datum
+    d = dataIn w l p
+
+    rest : List (List Datum)
+    rest = dataOfBytes w ls ps
+
+    P : ℕ → Type 0
+    P n = length (row (take n (d ∷ rest))) ≡ w * n
+
+run-length : (w : ℕ) (ls ps : List ℕ) → let ds : List (List Datum) = dataOfBytes w ls ps in length (row (take (pointsFrom (drop (before ds) ds)) (drop (before ds) ds))) ≡ w * pointsFrom (drop (before ds) ds)
+run-length w [] ps = omega arith
+run-length w (l ∷ ls) [] = omega arith
+run-length w (l ∷ ls) (p ∷ ps) = by-test (anySettled d)
+    (λ e. subst P (sym (ap (λ (b : Bool). cond b 0 (suc (before rest))) e)) (row-length w d _ (following rest) (data-length w l p e) (following-length w ls ps)))
+    (λ e. subst P (sym (ap (λ (b : Bool). cond b 0 (suc (before rest))) e)) (run-length w ls ps))
+  where
+    d : List Datum
+    d = dataIn w l p
+
+    rest : List (List Datum)
+    rest = dataOfBytes w ls ps
+
+    P : ℕ → Type 0
+    P n = length (row (take (pointsFrom (drop n (d ∷ rest))) (drop n (d ∷ rest)))) ≡ w * pointsFrom (drop n (d ∷ rest))
+
 pub any-bytes : AnyBytes
+unfolding runData runPoints
 any-bytes w ls ps =
     let ds : List (List Datum) = dataOfBytes w ls ps in
     let s = shape w ds (drop (before ds) ls) (drop (before ds) ps) (drop-data w ls ps (before ds)) in
-    record { none-before = none-before ds; unsettled-first = s .first; fewer = s .fewer; then-settled = s .then }
+    record { none-before = none-before ds; w-each = run-length w ls ps; unsettled-first = s .first; fewer = s .fewer; then-settled = s .then }
 
 -- WHAT IS FOUND AND WRITTEN
 

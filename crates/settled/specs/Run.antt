@@ -50,7 +50,7 @@ abbrev pub before : List (List Datum) → ℕ
 before [] = 0
 before (d ∷ ds) = cond (anySettled d) 0 (suc (before ds))
 
--- how many points follow, one after the other, with all their data bits settled: "it stops at a gap"
+-- how many points follow, one after the other, with all their data bits settled: so the run stops at a gap
 abbrev pub following : List (List Datum) → ℕ
 following [] = 0
 following (d ∷ ds) = cond (allSettled d) (suc (following ds)) 0

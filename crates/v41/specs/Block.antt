@@ -1,4 +1,4 @@
--- Document 02, R-7, and Recommendation V.41, 2: blocks of 260, 500, 980 or 3860 bits, their 16 check bits, and what `check` and `make` refuse
+-- Document 02, R-7, and Recommendation V.41, 1 and 2: blocks of 260, 500, 980 or 3860 bits, their 16 check bits, and what `check` and `make` refuse
 -- and answer. A bit stands in a byte.
 use Prim.Native.Nat.{ℕ, _+_}
 use mathlib.Core.Path.{_≡_}
@@ -33,7 +33,8 @@ unfoldable pub leavesNothing : List ℕ → Bool
 leavesNothing block = zeros (remainder generator block)
 
 -- "16 check bits last": the given bits are the coefficients of the powers from 16 up, and the check bits are what their division leaves.
--- The printed text of V.41, 2 has the given bits go down to the power 0; only so is the whole block divisible, as it says further on.
+-- The printed text of V.41, 2 has the given bits go down to the power 0; the whole block is divisible, as the same section says, only if
+-- they go down to the power 16.
 unfoldable pub checkBits : List ℕ → List ℕ
 checkBits given = remainder generator (given ++ replicate 16 0)
 
@@ -41,7 +42,8 @@ checkBits given = remainder generator (given ++ replicate 16 0)
 unfoldable pub block : List ℕ → List ℕ
 block given = given ++ checkBits given
 
--- "It refuses another size with 19, ahead of number 5 for a byte above 1": of bits for a block of that size
+-- "It refuses another size with 19, ahead of number 5 for a byte above 1": of bits that are, or with check bits
+-- become, a block of `size` bits
 unfoldable pub bitsRefusal : ℕ → List ℕ → ℕ
 bitsRefusal size bits = need (isSize size) 19 (need (every isBit bits) 5 0)
 

@@ -25,7 +25,7 @@ abbrev pub divided : List ℕ → ℕ → List ℕ → List ℕ
 divided g zero l = l
 divided g (suc n) l = divided g n (step g l)
 
--- what the long division leaves: the steps go on while the dividend is as long as g
+-- what the long division leaves: the steps go on while the dividend is at least as long as g
 unfoldable pub remainder : List ℕ → List ℕ → List ℕ
 remainder g l = divided g (suc (length l) - length g) l
 

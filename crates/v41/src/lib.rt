@@ -41,7 +41,8 @@ fn shift(r: u32, b: u32) -> u32
     (t - 65536) ^ 0x1021
 }
 
-// Eight bits shifted in at once, v being their number: x^16 is x^12 + x^5 + 1, and so for each of the eight that leave the register.
+// Eight bits shifted in at once, v being their number. x^16 is x^12 + x^5 + 1: the eight that leave the register come back 12, 5 and 0
+// places up, and the upper four of them leave it once more by the first of these, hence x.
 fn shift_eight(r: u32, v: u32) -> u32
     requires { ⌜ (r < 65536) × (v < 256) ⌝ }
     ensures { λ q. ⌜ (q ≡ register r (bitsOf 8 v)) × (q < 65536) ⌝ }

@@ -4,7 +4,7 @@
 
 use outside::mode::Mode;
 use outside::receiver::{self, Answer, Receiver};
-use outside::refusal::Refusal;
+use outside::refusal;
 use outside::rng::Rng;
 use outside::sender;
 use outside::settled::{self, Run};
@@ -57,7 +57,7 @@ fn run(tally: &mut Tally, rng: &mut Rng, call: &Call) -> Told {
         &mut right.out,
         &mut right.run,
     );
-    right.number = outcome.err().map_or(0, |Refusal(number)| number);
+    right.number = refusal::number(outcome);
     let (out, numbers) = (&mut told.out, &mut told.run);
     told.number = ours::settled_bits(call.mode, call.line, call.plain, out, numbers);
     tally.count(told.number);

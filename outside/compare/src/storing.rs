@@ -2,7 +2,7 @@
 
 use outside::mode::MODES;
 use outside::point::Point;
-use outside::refusal::Refusal;
+use outside::refusal::{self, Refusal};
 use outside::rng::Rng;
 use outside::store::{self, RECORD, RECORD_POINTS};
 use outside::tuned;
@@ -67,7 +67,7 @@ fn run(tally: &mut Tally, before: &[u8], call: &Call) -> (u8, Vec<u8>) {
             store::append_points(&mut right_bytes, numbers),
         ),
     };
-    let right = right.err().map_or(0, |Refusal(number)| number);
+    let right = refusal::number(right);
     tally.count(number);
     let kept = number == 0 || bytes == before;
     tally.check(number == right && bytes == right_bytes && kept, || {
@@ -89,7 +89,7 @@ fn run_tuned(tally: &mut Tally, before: &[u8], call: &Call, right: u8, right_byt
     };
     let mut bytes = before.to_vec();
     let told = tuned::append_points(&mut bytes, &numbers);
-    let number = told.err().map_or(0, |Refusal(number)| number);
+    let number = refusal::number(told);
     tally.check(number == right && bytes == right_bytes, || {
         format!(
             "store of {} bytes: tuned {number}, plain {right}",

@@ -1,7 +1,7 @@
 //! Sums of stores: sound ones, damaged ones and those at the limits.
 
 use outside::limits;
-use outside::refusal::Refusal;
+use outside::refusal;
 use outside::rng::Rng;
 use outside::sums;
 use outside::tuned;
@@ -24,7 +24,7 @@ fn run(tally: &mut Tally, rng: &mut Rng, store: &[u8], lent: usize) -> u8 {
     let mut out: Vec<u64> = (0..lent).map(|_| rng.next_u64()).collect();
     let mut right_out = out.clone();
     let right = sums::sums_into(store, &mut right_out);
-    let right = right.err().map_or(0, |Refusal(number)| number);
+    let right = refusal::number(right);
     let number = ours::sums(store, &mut out);
     tally.count(number);
     tally.check(number == right && out == right_out, || {

@@ -4,7 +4,7 @@
 
 use std::collections::BTreeMap;
 
-use outside::refusal::Refusal;
+use outside::refusal::{self, Refusal};
 use outside::rng::Rng;
 use outside::tuned;
 use outside::v41::{self, CHECK_BITS, GENERATOR, SIZES};
@@ -58,7 +58,7 @@ impl Altered {
     }
 }
 
-/// Both calls' counts, and the generator of what they are given.
+/// Both calls' counts, and random numbers for what they are given.
 struct Comparison {
     rng: Rng,
     checks: Tally,
@@ -69,11 +69,6 @@ struct Comparison {
 /// Lent bytes that hold anything.
 fn lend(rng: &mut Rng, count: usize) -> Vec<u8> {
     (0..count).map(|_| rng.next_u64() as u8).collect()
-}
-
-/// The number of an outcome.
-fn number_of<T>(told: Result<T, Refusal>) -> u8 {
-    told.err().map_or(0, |Refusal(number)| number)
 }
 
 /// Service and information bits: random ones, now and then few ones or all equal.
@@ -106,7 +101,7 @@ impl Comparison {
     fn check(&mut self, bits: &[u8], lent: usize) -> (u8, Vec<u8>) {
         let before = lend(&mut self.rng, lent);
         let (mut whole, mut right_whole) = (before.clone(), before.clone());
-        let right = number_of(v41::check_into(bits, &mut right_whole));
+        let right = refusal::number(v41::check_into(bits, &mut right_whole));
         let number = ours::v41_check(bits, &mut whole);
         self.checks.count(number);
         let same = (number, &whole) == (right, &right_whole);
@@ -145,7 +140,7 @@ impl Comparison {
         let before = lend(&mut self.rng, lent);
         let outside = |make: Make| {
             let mut out = before.clone();
-            (number_of(make(bits, &mut out)), out)
+            (refusal::number(make(bits, &mut out)), out)
         };
         let right = outside(v41::make);
         let mut out = before.clone();

@@ -1,8 +1,8 @@
 //! V.41 blocks, eight bits in one step: they are gathered into a byte, and what
 //! the byte leaves is folded into the register by shifts, without a table.
 
-use crate::refusal::{need, Refusal};
-use crate::v41::{write_check_bits, CHECK_BITS, SIZES};
+use crate::refusal::Refusal;
+use crate::v41::{need_bits, need_message, write_check_bits};
 
 /// Gives what `v41::check` gives.
 pub fn v41_check(bits: &[u8]) -> Result<bool, Refusal> {
@@ -12,21 +12,10 @@ pub fn v41_check(bits: &[u8]) -> Result<bool, Refusal> {
 
 /// Gives and writes what `v41::make` does.
 pub fn v41_make(bits: &[u8], out: &mut [u8]) -> Result<usize, Refusal> {
-    let size = bits.len() + CHECK_BITS;
-    need_bits(bits, size)?;
-    need(out.len() >= size, Refusal::LENT_NUMBERS)?;
+    let size = need_message(bits, out)?;
     out[..bits.len()].copy_from_slice(bits);
     write_check_bits(remainder(bits), &mut out[bits.len()..size]);
     Ok(size)
-}
-
-/// Numbers 19 and 5 of the bits of a block with some size. All bytes are looked
-/// at, many at once.
-#[inline(always)]
-fn need_bits(bits: &[u8], size: usize) -> Result<(), Refusal> {
-    need(SIZES.contains(&size), Refusal::BLOCK_SIZE)?;
-    let ones = bits.iter().fold(0, |ones, bit| ones | bit);
-    need(ones <= 1, Refusal::DATA_BYTE)
 }
 
 /// What bits times x^16 leave, which is nothing exactly where the bits leave
