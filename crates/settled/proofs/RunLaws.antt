@@ -165,34 +165,28 @@ row-length w d l n e f = length-append d l ∙ ap₂ (λ (a b : ℕ). a + b) e f
 following-length : (w : ℕ) (ls ps : List ℕ) → length (row (take (following (dataOfBytes w ls ps)) (dataOfBytes w ls ps))) ≡ w * following (dataOfBytes w ls ps)
 following-length w [] ps = omega arith
 following-length w (l ∷ ls) [] = omega arith
-following-length w (l ∷ ls) (p ∷ ps) = by-test (allSettled d)
-    (λ e. subst P (sym (ap (λ (b : Bool). cond b (suc (following rest)) 0) e)) (row-length w d _ (following rest) (data-length w l p (and-split (anySettled d) _ e .0)) (following-length w ls ps)))
-    (λ e. subst P (sym (ap (λ (b : Bool). cond b (suc (following rest)) 0) e)) (omega arith))
+following-length w (l ∷ ls) (p ∷ ps) = by-test (allSettled (dataIn w l p)) (λ e. at e (row-length w (dataIn w l p) _ F (data-length w l p (and-split (anySettled (dataIn w l p)) _ e .0)) (following-length w ls ps))) (λ e. at e (omega arith))
   where
-    d : List Datum
-    d = dataIn w l p
-
-    rest : List (List Datum)
-    rest = dataOfBytes w ls ps
+    F : ℕ
+    F = following (dataOfBytes w ls ps)
 
     P : ℕ → Type 0
-    P n = length (row (take n (d ∷ rest))) ≡ w * n
+    P n = length (row (take n (dataOfBytes w (l ∷ ls) (p ∷ ps)))) ≡ w * n
+
+    at : {b : Bool} → allSettled (dataIn w l p) ≡ b → P (cond b (suc F) 0) → P (following (dataOfBytes w (l ∷ ls) (p ∷ ps)))
+    at e q = subst P (sym (ap (λ (t : Bool). cond t (suc F) 0) e)) q
 
 run-length : (w : ℕ) (ls ps : List ℕ) → let ds : List (List Datum) = dataOfBytes w ls ps in length (row (take (pointsFrom (drop (before ds) ds)) (drop (before ds) ds))) ≡ w * pointsFrom (drop (before ds) ds)
 run-length w [] ps = omega arith
 run-length w (l ∷ ls) [] = omega arith
-run-length w (l ∷ ls) (p ∷ ps) = by-test (anySettled d)
-    (λ e. subst P (sym (ap (λ (b : Bool). cond b 0 (suc (before rest))) e)) (row-length w d _ (following rest) (data-length w l p e) (following-length w ls ps)))
-    (λ e. subst P (sym (ap (λ (b : Bool). cond b 0 (suc (before rest))) e)) (run-length w ls ps))
+run-length w (l ∷ ls) (p ∷ ps) = by-test (anySettled (dataIn w l p)) (λ e. begun e (row-length w (dataIn w l p) _ _ (data-length w l p e) (following-length w ls ps))) (λ e. begun e (run-length w ls ps))
   where
-    d : List Datum
-    d = dataIn w l p
+    Q : List (List Datum) → Type 0
+    Q ds = length (row (take (pointsFrom ds) ds)) ≡ w * pointsFrom ds
 
-    rest : List (List Datum)
-    rest = dataOfBytes w ls ps
-
-    P : ℕ → Type 0
-    P n = length (row (take (pointsFrom (drop n (d ∷ rest))) (drop n (d ∷ rest)))) ≡ w * pointsFrom (drop n (d ∷ rest))
+    begun : {b : Bool} → anySettled (dataIn w l p) ≡ b → Q (drop (cond b 0 (suc (before (dataOfBytes w ls ps)))) (dataOfBytes w (l ∷ ls) (p ∷ ps)))
+        → Q (drop (before (dataOfBytes w (l ∷ ls) (p ∷ ps))) (dataOfBytes w (l ∷ ls) (p ∷ ps)))
+    begun e q = subst (λ (n : ℕ). Q (drop n (dataOfBytes w (l ∷ ls) (p ∷ ps)))) (sym (ap (λ (t : Bool). cond t 0 (suc (before (dataOfBytes w ls ps)))) e)) q
 
 pub any-bytes : AnyBytes
 unfolding runData runPoints

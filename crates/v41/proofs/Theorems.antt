@@ -18,7 +18,7 @@ use Rattle.line.specs.Table.{member, every}
 use Rattle.line.specs.Refusal.{accepted}
 use Rattle.line.proofs.RefusalLaws.{need-zero, or-zero}
 use Rattle.line.proofs.Tests.{and-split, and-join}
-use Rattle.line.proofs.TableLaws.{and-left, and-right, and-intro, is-true, every-at}
+use Rattle.line.proofs.TableLaws.{and-left, and-right, and-intro, is-true, every-at, every-take, every-drop}
 use Rattle.scrambler.specs.Bits.{isBit}
 use Rattle.octets.specs.Number.{zeros}
 use Rattle.v41.specs.Polynomial.{plus, divided, remainder, product}
@@ -325,13 +325,6 @@ determining-any given c a b l e =
 pub determining : Determining
 determining given c l e =
     let w = whole-means (given ++ c) e in
-    let p = subst T (sym (w .bits)) tt in
-    determining-any given c (every-left given p) (every-right given p) l (w .nothing-left)
-  where
-    every-left : (xs : List ℕ) → T (every isBit (xs ++ c)) → T (every isBit xs)
-    every-left [] t = tt
-    every-left (x ∷ xs) t = and-intro (isBit x) (every isBit xs) (and-left (isBit x) (every isBit (xs ++ c)) t) (every-left xs (and-right (isBit x) (every isBit (xs ++ c)) t))
-
-    every-right : (xs : List ℕ) → T (every isBit (xs ++ c)) → T (every isBit c)
-    every-right [] t = t
-    every-right (x ∷ xs) t = every-right xs (and-right (isBit x) (every isBit (xs ++ c)) t)
+    let p : T (every isBit (given ++ c)) = subst T (sym (w .bits)) tt in
+    determining-any given c (subst (λ (k : List ℕ). T (every isBit k)) (take-append-seam given c) (every-take isBit (length given) (given ++ c) p))
+    (subst (λ (k : List ℕ). T (every isBit k)) (drop-append-seam given c) (every-drop isBit (length given) (given ++ c) p)) l (w .nothing-left)
