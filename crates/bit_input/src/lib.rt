@@ -1,4 +1,6 @@
 // Bits from standard input, given as the characters 0 and 1.
+#![tactic(auto)]
+
 ghost use Rattle.bit_input.specs.Input.{BitsBehind};
 
 // How many characters were read and how many bits stand at the front of the buffer, whether a character that is no bit ended them, whether

@@ -1,5 +1,7 @@
 // Prints a line for each V.41 block in the bits that stand on standard input as characters: the blocks' size and how many bits to pass over are
 // its arguments.
+#![tactic(auto)]
+
 ghost use Rattle.std.specs.Prelude.{◌≤◌, length};
 
 use bit_input::BitsCame;

@@ -1,5 +1,7 @@
 // Standard input, standard output and the arguments of the commands, and what a command says of its end on standard error: nothing where all
 // went well, else one line, by which the front tells a sentence and a status.
+#![tactic(auto)]
+
 ghost use Rattle.std.specs.Prelude.{◌≡◌, ◌+◌, ◌*◌, ◌<◌, ◌≤◌, min};
 ghost use Rattle.console.specs.Reading.{Behind, Carried};
 ghost use Rattle.console.specs.Words.{most, number};

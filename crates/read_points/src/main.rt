@@ -1,4 +1,6 @@
 // Prints the points and lost intervals of the track store that stands on standard input, as a capture.
+#![tactic(auto)]
+
 use track_capture::Captured;
 
 // A store has at most 65,536 bytes. One byte more is kept, so that a longer input is refused for its size.

@@ -1,4 +1,6 @@
 // Prints the lines of a listing for the points and lost intervals that stand on standard input, as a capture: mode and role are its arguments.
+#![tactic(auto)]
+
 use listing::Listed;
 use receiver::{Receiver, Started};
 use summing::EventSums;

@@ -1,5 +1,7 @@
 // Prints the points of a training and of the data bits that stand on standard input as characters: mode, role and training length are its
 // arguments.
+#![tactic(auto)]
+
 ghost use Rattle.std.specs.Prelude.{◌≤◌, length};
 
 use bit_input::BitsCame;

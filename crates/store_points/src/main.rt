@@ -1,5 +1,7 @@
 // Makes a track store of the points and lost intervals that stand on standard input, as a capture: mode, role, and how many events to pass over
 // are its arguments.
+#![tactic(auto)]
+
 use track_capture::Kept;
 
 // How far the input has been taken: bytes left over at the front of the buffer, events still to pass over, events before the next one,

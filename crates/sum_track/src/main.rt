@@ -1,4 +1,6 @@
 // Prints the last line of a store's listing alone: document 02, R-2.
+#![tactic(auto)]
+
 use listing::Listed;
 use store::Inspected;
 
