@@ -17,9 +17,6 @@ loop-k-init c = (omega arith, refl, refl, refl)
 pub returns-then-out-at : goal.returns-then-out-at
 returns-then-out-at c = sym (sets_out (number_bytes (drop c.loop-k.k c.args.numbers.now)) c.loop-k.out c.loop-k.at c.if-out-at.true) ∙ c.loop-k.invariant.3
 
-pub offset_bounds-numbers-k : goal.offset_bounds-numbers-k
-offset_bounds-numbers-k c = omega arith
-
 pub loop-k-preserved : goal.loop-k-preserved
 loop-k-preserved c =
     (omega arith, omega arith, search rules, numbers-step c.loop-k.out _ c.args.numbers.now c.loop-k.at c.loop-k.k _ (omega arith) (c.pattern_of.ensures.0 ∙ ap pattern (to_z-of_z {w = w16} {z = get_or c.args.numbers.now c.loop-k.k (pos 0)} (search rules))) c.put16.ensures ∙ c.loop-k.invariant.3)
