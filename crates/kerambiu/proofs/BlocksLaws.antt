@@ -1,6 +1,6 @@
 -- What `check` of v41 answers, in a lent byte. Assumes nothing.
 use Prim.Native.Nat.{ℕ, zero, suc, ◌≤◌}
-use mathlib.Core.Path.{◌≡◌, refl, sym, ap, ap₂, ◌∙◌}
+use mathlib.Core.Path.{◌≡◌, refl, sym, ap, ◌∙◌}
 use mathlib.Core.Bool.{Bool, true, false, cond}
 use mathlib.Core.List.{List, [], ◌∷◌}
 use native.Mathlib.Omega.{arith}
@@ -9,10 +9,8 @@ use lib.Dec.{leb}
 use lib.ListN.{length}
 use lib.Seq.{sets}
 use Rattle.line.specs.Refusal.{need, or_next, accepted}
-use Rattle.line.proofs.RefusalLaws.{left_done}
 use Rattle.line.proofs.Sets.{sets_out}
 use Rattle.v41.specs.declared.Checked.{Checked}
-use Rattle.v41.specs.declared.Checked.TheVariants as Checked
 use Rattle.v41.specs.Block.{leaves_nothing, check_refusal, check_answer, checked_number, is_accepted}
 use Rattle.kerambiu.specs.Blocks.{whole_number, whole_result}
 

@@ -4,11 +4,6 @@ use Rattle.settled.specs.Run.{number_of, runs_of}
 use Rattle.kerambiu.proofs.SettledLaws.{run_short, run_given}
 use borrow.Author.Rules.{rules}
 use borrow.Author.Rules.{rules}
-use Rattle.kerambiu.proofs.kerambiu_settled_bits.Reads as reads
-use Rattle.kerambiu.proofs.kerambiu_settled_bits.Lts as lts
-use Rattle.line.proofs.mode_ok.Reads as mode-ok-reads
-use Rattle.line.proofs.need.Reads as need-reads
-use Rattle.settled.proofs.settled_bits.Reads as settled-bits-reads
 use Rattle.kerambiu.proofs.kerambiu_settled_bits.Goals as goal
 
 pub returns-then-run-lt3 : goal.returns-then-run-lt3

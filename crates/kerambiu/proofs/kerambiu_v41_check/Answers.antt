@@ -1,9 +1,5 @@
 use mathlib.Core.Bool.{true, false}
 use Rattle.kerambiu.proofs.BlocksLaws.{whole_refused, whole-told}
-use Rattle.kerambiu.proofs.kerambiu_v41_check.Reads as reads
-use Rattle.kerambiu.proofs.kerambiu_v41_check.Lts as lts
-use Rattle.kerambiu.proofs.tell_whole.Reads as tell-whole-reads
-use Rattle.v41.proofs.check.Reads as check-reads
 use Rattle.kerambiu.proofs.kerambiu_v41_check.Goals as goal
 
 pub returns-in-Refused : goal.returns-in-Refused

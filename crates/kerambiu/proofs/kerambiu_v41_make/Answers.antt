@@ -1,8 +1,5 @@
 use mathlib.Core.Path.{sym, ap, ◌∙◌}
 use Rattle.v41.specs.Block.{made_number}
-use Rattle.kerambiu.proofs.kerambiu_v41_make.Reads as reads
-use Rattle.kerambiu.proofs.kerambiu_v41_make.Lts as lts
-use Rattle.v41.proofs.make.Reads as make-reads
 use Rattle.kerambiu.proofs.kerambiu_v41_make.Goals as goal
 
 pub returns-in-Refused : goal.returns-in-Refused

@@ -3,10 +3,6 @@ use Prim.Native.Nat.{ℕ}
 use lib.Dec.{leb}
 use lib.ListN.{length, length-set}
 use Rattle.line.specs.Refusal.{need}
-use Rattle.kerambiu.proofs.tell_whole.Reads as reads
-use Rattle.kerambiu.proofs.tell_whole.Lts as lts
-use Rattle.line.proofs.need.Reads as need-reads
-use Rattle.octets.proofs.put8.Reads as put8-reads
 use Rattle.kerambiu.proofs.tell_whole.Goals as goal
 
 pub returns : goal.returns
