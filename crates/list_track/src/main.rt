@@ -1,6 +1,6 @@
 // Lists the track store that stands on standard input: document 01, "Listing program".
 ghost use Rattle.std.specs.Prelude.{◌≡◌, length, take};
-ghost use Rattle.io.specs.Counts.{IsPrefixLen};
+ghost use Rattle.std.specs.Counts.{IsPrefixLen};
 ghost use Rattle.listing.specs.Text.{text};
 
 use listing::Listed;
