@@ -1,4 +1,6 @@
 // Bits given as text: the characters 0 and 1, with blanks and line ends between them.
+#![tactic(auto)]
+
 ghost use Rattle.std.specs.Prelude.{◌≡◌, length};
 ghost use Rattle.bit_text.specs.BitText.{is_blank, is_digit, text_answer, text_bytes, bit_count, took_all, TextTold};
 

@@ -1,4 +1,6 @@
 // Bits, one in a byte.
+#![tactic(auto)]
+
 ghost use Rattle.std.specs.Prelude.{◌≡◌, length};
 ghost use Rattle.line.specs.Table.{every};
 ghost use Rattle.scrambler.specs.Bits.{is_bit, bits};

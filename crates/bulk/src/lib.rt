@@ -1,4 +1,6 @@
 // Many points by one call: the state is looked at once, then the coordinates, then each point is read.
+#![tactic(auto)]
+
 ghost use Rattle.std.specs.Prelude.{◌≡◌, map, ◌+◌, ◌*◌, ◌/◌, ◌^◌, ◌<◌, ◌≤◌, true, length};
 ghost use Rattle.line.specs.Mode.{width, guarded, capacity};
 ghost use Rattle.line.specs.Point.{at, pairs};

@@ -1,4 +1,6 @@
 // The differential code: document 01.
+#![tactic(auto)]
+
 ghost use Rattle.std.specs.Prelude.{◌≡◌, cond, ◌+◌, ◌*◌, ◌≤◌, ◌<◌, min, eqb, get_or};
 ghost use Rattle.line.specs.Table.{entry, first_row};
 ghost use Rattle.line.specs.Mode.{face};

@@ -1,4 +1,6 @@
 // Deciding a point: document 01.
+#![tactic(auto)]
+
 ghost use Rattle.std.specs.Prelude.{◌≡◌, true, false, ◌*◌, ◌/◌, ◌%◌, ◌^◌, ◌≤◌, ◌<◌, pos, get_or};
 ghost use Rattle.line.specs.Point.{at, is_origin};
 ghost use Rattle.deciding.specs.Distance.{apart as apartSpec, squared_distance, distance as distanceSpec, decision};

@@ -1,4 +1,6 @@
 // The calls for C and Rust, by their exported names. What each does is in the crates that it calls; include/kerambiu.h declares them.
+#![tactic(auto)]
+
 ghost use Rattle.std.specs.Prelude.{◌≡◌, [], ◌∷◌, leb, length as size};
 ghost use Rattle.std.proofs.lemmas.List.Edits.{sets};
 ghost use Rattle.line.specs.Refusal.{need};

@@ -1,4 +1,6 @@
 // The demodulator's readings over lent bytes, for callers in C and Rust. The layouts are those of lent_receiver.
+#![tactic(auto)]
+
 ghost use Rattle.std.specs.Prelude.{◌≡◌};
 ghost use Rattle.lent_readings.specs.Reading.{reading_number, reading_state, reading_bytes, refused_number};
 

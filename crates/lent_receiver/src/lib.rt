@@ -1,4 +1,6 @@
 // The receiver's calls over lent bytes, for callers in C and Rust. The layouts stand in specs/ and in include/kerambiu.h.
+#![tactic(auto)]
+
 ghost use Rattle.std.specs.Prelude.{◌≡◌, ◌+◌, ◌≤◌, ◌<◌, length as size};
 ghost use Rattle.std.proofs.lemmas.List.Edits.{sets};
 ghost use Rattle.line.specs.Point.{at};

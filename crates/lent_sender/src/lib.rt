@@ -1,4 +1,6 @@
 // The sender's calls over lent bytes and numbers, for callers in C and Rust. The layouts stand in specs/ and in include/kerambiu.h.
+#![tactic(auto)]
+
 ghost use Rattle.std.specs.Prelude.{◌≡◌, get_or};
 ghost use Rattle.sender.specs.Sender.{number_of};
 ghost use Rattle.lent_sender.specs.Sending.{sent_reference, sender_in, sender_out, open_number, open_state, open_out, send_number, send_state, send_out};

@@ -1,4 +1,6 @@
 // A coordinate in levels, a single, and the whole number nearest 1024 times it. Document 02, R-3.
+#![tactic(auto)]
+
 ghost use Rattle.std.specs.Prelude.{◌≡◌, ◌%◌, ◌/◌, ◌<◌};
 ghost use Rattle.line.specs.Table.{every};
 ghost use Rattle.levels.specs.Levels.{is_finite, in_reach, turned_levels};

@@ -1,4 +1,6 @@
 // Modes, roles, states and points: document 01.
+#![tactic(auto)]
+
 ghost use Rattle.std.specs.Prelude.{◌≡◌, ◌≤◌, pos, nat_abs};
 ghost use Rattle.line.specs.Table.{Tabled};
 ghost use Rattle.line.specs.Mode.{column, is_mode, is_role, width, guarded, capacity, is_state};
@@ -6,7 +8,7 @@ ghost use Rattle.line.specs.Point.{at, coordinate_in, in_range, coordinates_in, 
 ghost use Rattle.line.specs.Refusal.{or_next, mode_refusal};
 
 // A point: 1024 to one level.
-#[derive(Drop)]
+#[derive(Clone, Copy)]
 pub struct Point {
     pub re: i16,
     pub im: i16,

@@ -1,4 +1,6 @@
 // Numbers in bytes, little-endian, and runs of bytes. Every function is total: a byte past the end reads as 0 and is not written.
+#![tactic(auto)]
+
 ghost use Rattle.std.specs.Prelude.{◌≡◌, [], ◌∷◌, ◌<◌, min, length, drop, get_or, replicate};
 ghost use Rattle.std.proofs.lemmas.List.Edits.{sets};
 ghost use Rattle.octets.specs.Number.{u16, u32, le16, le32, pattern, signed, i16, zeros};

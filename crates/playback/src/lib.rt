@@ -1,4 +1,6 @@
 // The points of a sender as the bytes of a capture.
+#![tactic(auto)]
+
 ghost use Rattle.std.specs.Prelude.{◌≡◌, ◌*◌, ◌/◌, ◌≤◌, length as size};
 ghost use Rattle.line.specs.Mode.{width};
 ghost use Rattle.playback.specs.Playback.{room_refusal, played, played_bytes, open_played, open_bytes, send_played, send_bytes};

@@ -1,4 +1,6 @@
 // The demodulator's readings, and the receiver that takes them. Document 02, R-3.
+#![tactic(auto)]
+
 ghost use Rattle.std.specs.Prelude.{◌≡◌, cond, map, ◌+◌, ◌-◌, ◌/◌, ◌%◌, ◌≤◌, min, T, pos, neg_ℤ, nat_abs, length as size};
 ghost use Rattle.std.proofs.lemmas.List.Edits.{sets};
 ghost use Rattle.line.specs.Table.{every};

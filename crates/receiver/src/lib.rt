@@ -1,5 +1,7 @@
 // The receiver: its state, its answers, and the points and gaps that it takes. Document 01, "Receiver" and "Refusals"; the guard's count,
 // which is the register's: document 02, R-6.
+#![tactic(auto)]
+
 ghost use Rattle.std.specs.Prelude.{◌≡◌};
 ghost use Rattle.line.specs.Point.{at};
 ghost use Rattle.scrambler.specs.Group.{descrambled};

@@ -1,4 +1,6 @@
 // The scrambler's register, and scrambling and descrambling the bits of a point: document 01; the guard of modes 5 and 6: document 02, R-6.
+#![tactic(auto)]
+
 ghost use Rattle.std.specs.Prelude.{◌≡◌, true, cond, eqb, leb, ltb, ◌∷◌, [], ◌+◌, ◌*◌, ◌-◌, ◌^◌, ◌/◌, ◌%◌, ◌≤◌, ◌<◌, min};
 ghost use Rattle.line.specs.Mode.{column, width, far_tap, guarded, capacity};
 ghost use Rattle.scrambler.specs.Bits.{bits, value};

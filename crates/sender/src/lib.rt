@@ -1,4 +1,6 @@
 // The sender: opening writes training, sending writes the points of data bits. Document 01, "Sender".
+#![tactic(auto)]
+
 ghost use Rattle.std.specs.Prelude.{◌≡◌, ◌*◌, ◌/◌, ◌≤◌, ◌<◌, T, length as size, false};
 ghost use Rattle.std.proofs.lemmas.List.Edits.{sets};
 ghost use Rattle.line.specs.Table.{every};

@@ -1,4 +1,6 @@
 // The settled data bits of a run of points, from the bytes that receive_points wrote: what a library over the receiver reads.
+#![tactic(auto)]
+
 ghost use Rattle.std.specs.Prelude.{◌≡◌, ◌+◌, ◌*◌, ◌<◌, ◌≤◌, T, leb, length as size, drop};
 ghost use Rattle.std.proofs.lemmas.List.Edits.{sets};
 ghost use Rattle.line.specs.Table.{every};

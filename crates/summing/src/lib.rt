@@ -1,4 +1,6 @@
 // The sums of a track store: decided points, lost intervals, gaps. Document 02, R-2.
+#![tactic(auto)]
+
 ghost use Rattle.std.specs.Prelude.{◌≡◌, ◌+◌, ◌≤◌, ◌<◌, drop};
 ghost use Rattle.line.specs.Point.{at};
 ghost use Rattle.octets.specs.Number.{i16};

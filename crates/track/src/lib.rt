@@ -1,4 +1,6 @@
 // The track store: making it, and appending points and lost intervals. Document 01, "Track store".
+#![tactic(auto)]
+
 ghost use Rattle.std.specs.Prelude.{◌≡◌, true, [], ◌∷◌, ◌+◌, ◌*◌, ◌%◌, ◌≤◌, ◌<◌, length};
 ghost use Rattle.line.specs.Point.{at, coordinates_in};
 ghost use Rattle.octets.specs.Number.{le16};

@@ -1,4 +1,6 @@
 // What the sender's training does interval by interval: document 01, "Sender".
+#![tactic(auto)]
+
 ghost use Rattle.std.specs.Prelude.{◌≡◌, ◌+◌, ◌*◌, ◌%◌, ◌≤◌, ◌<◌};
 ghost use Rattle.line.specs.Mode.{column, width};
 ghost use Rattle.scrambler.specs.Bits.{bits};

@@ -1,5 +1,7 @@
 // Blocks of Recommendation V.41, a bit in a byte: four service bits and the information, then 16 check bits. The first bit is the
 // highest power, and a whole block leaves nothing when divided by x^16 + x^12 + x^5 + 1.
+#![tactic(auto)]
+
 ghost use Rattle.std.specs.Prelude.{◌≡◌, ◌<◌, ◌≤◌, T, length};
 ghost use Rattle.line.specs.Table.{every};
 ghost use Rattle.scrambler.specs.Bits.{is_bit, bits as bits_of, value};

@@ -1,4 +1,6 @@
 // The text of the command `check`: a line for each whole block of V.41 in some bits, one in a byte.
+#![tactic(auto)]
+
 ghost use Rattle.std.specs.Prelude.{◌≡◌, ◌+◌, ◌*◌, ◌/◌, ◌<◌, ◌≤◌, length};
 ghost use Rattle.std.proofs.lemmas.List.Edits.{sets};
 ghost use Rattle.v41.specs.Block.{is_size};
