@@ -48,7 +48,14 @@ fn tell(rt: &(impl Print + Eprint), size: usize, place: u64, bits: &[u8], out: &
 }
 
 // The blocks among the first m bits; those left over are carried to the front.
-fn check_taken(rt: &(impl Print + Eprint), c: Checking, size: usize, bits: &mut [u8], m: usize, out: &mut [u8]) -> Checking
+fn check_taken(
+    rt: &(impl Print + Eprint),
+    c: Checking,
+    size: usize,
+    bits: &mut [u8],
+    m: usize,
+    out: &mut [u8],
+) -> Checking
     requires { m ≤ length bits.old }
 {
     let passed = console::lesser(m, console::length_of(c.skip));
@@ -128,7 +135,15 @@ fn put_end(rt: &(impl Print + Eprint), c: Checking) {
 }
 
 // All of the input. A proved loop has to end: it counts up to a number that no run comes to.
-fn check_all<R: Read>(rt: &(impl Print + Eprint), size: usize, skip: u64, input: &mut R, text: &mut [u8], bits: &mut [u8], out: &mut [u8]) -> Checking {
+fn check_all<R: Read>(
+    rt: &(impl Print + Eprint),
+    size: usize,
+    skip: u64,
+    input: &mut R,
+    text: &mut [u8],
+    bits: &mut [u8],
+    out: &mut [u8],
+) -> Checking {
     let mut c = Checking {
         have: 0,
         skip,

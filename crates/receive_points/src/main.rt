@@ -19,7 +19,13 @@ struct Hearing {
 }
 
 // One read, and the lines of the events in what came.
-fn hear_some<R: Read>(rt: &(impl Print + Eprint), h: Hearing, input: &mut R, buf: &mut [u8], out: &mut [u8]) -> Hearing {
+fn hear_some<R: Read>(
+    rt: &(impl Print + Eprint),
+    h: Hearing,
+    input: &mut R,
+    buf: &mut [u8],
+    out: &mut [u8],
+) -> Hearing {
     let came = console::read_more(input, buf, h.have);
     let n = came.count;
     let s = h.state;
@@ -48,7 +54,13 @@ fn hear_some<R: Read>(rt: &(impl Print + Eprint), h: Hearing, input: &mut R, buf
 }
 
 // All of the input, up to the first event that is refused. A proved loop has to end: it counts up to a number that no run comes to.
-fn hear_all<R: Read>(rt: &(impl Print + Eprint), s: Receiver, input: &mut R, buf: &mut [u8], out: &mut [u8]) -> Hearing {
+fn hear_all<R: Read>(
+    rt: &(impl Print + Eprint),
+    s: Receiver,
+    input: &mut R,
+    buf: &mut [u8],
+    out: &mut [u8],
+) -> Hearing {
     let mut h = Hearing {
         state: s,
         sums: EventSums {
@@ -100,7 +112,10 @@ fn put_end(rt: &(impl Print + Eprint), h: Hearing) {
 }
 
 fn main(rt: HostRuntime) {
-    match receiver::fresh(console::small_argument(&rt, 1), console::small_argument(&rt, 2)) {
+    match receiver::fresh(
+        console::small_argument(&rt, 1),
+        console::small_argument(&rt, 2),
+    ) {
         Started::Refused(number) => put_refused(&rt, number, 0),
         Started::Ready(s) => {
             let mut buf = [0u8; 65536];

@@ -38,7 +38,13 @@ fn send_groups(rt: &(impl Print + Eprint), t: Sending, bits: &[u8], out: &mut [u
 }
 
 // The points of the first m bits; those left over are carried to the front.
-fn send_taken(rt: &(impl Print + Eprint), t: Sending, bits: &mut [u8], m: usize, out: &mut [u8]) -> Sending
+fn send_taken(
+    rt: &(impl Print + Eprint),
+    t: Sending,
+    bits: &mut [u8],
+    m: usize,
+    out: &mut [u8],
+) -> Sending
     requires { m ≤ length bits.old }
 {
     let front = 0;
@@ -68,14 +74,28 @@ fn with_end(rt: &impl Eprint, t: Sending, came: BitsCame) -> Sending {
 }
 
 // One read, and the points of the bits in what came.
-fn send_some<R: Read>(rt: &(impl Print + Eprint), t: Sending, input: &mut R, text: &mut [u8], bits: &mut [u8], out: &mut [u8]) -> Sending {
+fn send_some<R: Read>(
+    rt: &(impl Print + Eprint),
+    t: Sending,
+    input: &mut R,
+    text: &mut [u8],
+    bits: &mut [u8],
+    out: &mut [u8],
+) -> Sending {
     let came = bit_input::read_bits(input, text, bits, t.have);
     let next = send_taken(rt, t, bits, came.count, out);
     with_end(rt, next, came)
 }
 
 // All of the input. A proved loop has to end: it counts up to a number that no run comes to.
-fn send_all<R: Read>(rt: &(impl Print + Eprint), s: Sender, input: &mut R, text: &mut [u8], bits: &mut [u8], out: &mut [u8]) -> Sending {
+fn send_all<R: Read>(
+    rt: &(impl Print + Eprint),
+    s: Sender,
+    input: &mut R,
+    text: &mut [u8],
+    bits: &mut [u8],
+    out: &mut [u8],
+) -> Sending {
     let mut t = Sending {
         state: s,
         have: 0,
@@ -93,10 +113,21 @@ fn send_all<R: Read>(rt: &(impl Print + Eprint), s: Sender, input: &mut R, text:
 }
 
 // The input's points behind the training's.
-fn follow<R: Read>(rt: &(impl Print + Eprint), s: Sender, input: &mut R, text: &mut [u8], bits: &mut [u8], out: &mut [u8]) {
+fn follow<R: Read>(
+    rt: &(impl Print + Eprint),
+    s: Sender,
+    input: &mut R,
+    text: &mut [u8],
+    bits: &mut [u8],
+    out: &mut [u8],
+) {
     let t = send_all(rt, s, input, text, bits, out);
     if t.number != 0 {
-        console::say_refused(rt, t.number, std::num::wrapping_add_u64(t.bits, t.have as u64));
+        console::say_refused(
+            rt,
+            t.number,
+            std::num::wrapping_add_u64(t.bits, t.have as u64),
+        );
     }
 }
 
