@@ -5,7 +5,7 @@ ghost use Rattle.std.specs.Prelude.{◌≡◌, length};
 ghost use Rattle.bit_text.specs.BitText.{is_blank, is_digit, text_answer, text_bytes, bit_count, took_all, TextTold};
 
 // A refusal's number; the count of bits of a text that was read to its end, or of those before a character that ended it.
-#[derive(Drop)]
+#[derive(Clone, Copy)]
 pub enum TextBits {
     Refused(u8),
     All(usize),
