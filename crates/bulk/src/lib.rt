@@ -17,14 +17,14 @@ use receiver::{Intervals, Receiver, Reference};
 use scrambler::{BitCount, Descrambled, Register};
 
 // The state after all points, or the number that refuses them.
-#[derive(Drop)]
+#[derive(Clone, Copy)]
 pub enum Block {
     Refused(u8),
     Taken(Receiver),
 }
 
 // The two bytes of a point, its distance, and the state after it.
-#[derive(Drop)]
+#[derive(Clone, Copy)]
 pub struct Step {
     pub line: u8,
     pub plain: u8,
@@ -111,7 +111,7 @@ fn hear(rows: &[u8; 16], s: Receiver, re: i16, im: i16) -> Step
 // ---- points after a reference
 
 // A point after a reference and a full register: its state, its line bits and data bits, all settled, and what the register is after it.
-#[derive(Drop)]
+#[derive(Clone, Copy)]
 struct Settled {
     state: u8,
     line: u8,
@@ -206,7 +206,7 @@ fn held_next(mode: u8, held: u8) -> u8
 }
 
 // A point of a block, and the state before it.
-#[derive(Drop)]
+#[derive(Clone, Copy)]
 struct Run {
     at: usize,
     state: Receiver,

@@ -13,7 +13,7 @@ use octets::{get_i16, get32, pattern_of, put16};
 pub const LOST_MARK: usize = 2147516416;
 
 // The event at a place of a capture.
-#[derive(Drop)]
+#[derive(Clone, Copy)]
 pub enum Next {
     Point(i16, i16),
     Lost(u32),
@@ -52,7 +52,7 @@ fn size_at(input: &[u8], at: usize) -> usize
 }
 
 // How many events were skipped, and how many bytes they have.
-#[derive(Drop)]
+#[derive(Clone, Copy)]
 pub struct Skipped {
     pub skipped: u64,
     pub used: usize,

@@ -10,11 +10,11 @@ ghost use Rattle.deciding.specs.Sizes.{bit_of, below_of, far_of, ring_of, ring_i
 use line::{Point, size};
 
 // A squared distance in units, 1024 to one level: no count of bits and none of unit intervals.
-#[derive(Drop)]
+#[derive(Clone, Copy)]
 pub struct SquaredUnits(pub u32);
 
 // What a point is decided as: a state, with the squared distance to its sent point. The origin is no state.
-#[derive(Drop)]
+#[derive(Clone, Copy)]
 pub enum Decision {
     State(u8, SquaredUnits),
     Origin,

@@ -6,7 +6,7 @@ ghost use Rattle.line.specs.Table.{every};
 ghost use Rattle.levels.specs.Levels.{is_finite, in_reach, turned_levels};
 
 // A point's coordinates in levels.
-#[derive(Drop)]
+#[derive(Clone, Copy)]
 pub struct Levels {
     pub re: f32,
     pub im: f32,

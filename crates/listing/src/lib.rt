@@ -170,7 +170,7 @@ fn put_lines(out: &mut [u8], at: usize, place: u32, w: u8, line: &[u8], plain: &
 // ---- the lines of a chain
 
 // A place in the text, and the receiver that hears the next event.
-#[derive(Drop)]
+#[derive(Clone, Copy)]
 struct Progress {
     at: usize,
     state: Receiver,
@@ -348,7 +348,7 @@ fn put_refused(out: &mut [u8], number: u8) -> usize
 }
 
 // What listing gives: the number that refuses it, or the length of the text.
-#[derive(Drop)]
+#[derive(Clone, Copy)]
 pub enum Listed {
     Refused(u8),
     Written(usize),

@@ -18,7 +18,7 @@ pub const LONGEST_BLOCK: usize = 65536;
 
 // What the events of a block, and of those before it, give: the receiver after them and their sums. Of the block alone: how many bytes of
 // text they have, how many bytes of the block, and the number that refuses the call or the event behind them, 0 for none.
-#[derive(Drop)]
+#[derive(Clone, Copy)]
 pub struct ListedEvents {
     pub state: Receiver,
     pub sums: EventSums,

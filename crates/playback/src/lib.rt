@@ -8,7 +8,7 @@ ghost use Rattle.playback.specs.Playback.{room_refusal, played, played_bytes, op
 use sender::{Sender, Sent};
 
 // A refusal's number alone, or the next state and the count of bytes written.
-#[derive(Drop)]
+#[derive(Clone, Copy)]
 pub enum Played {
     Refused(u8),
     Ready(Sender, usize),

@@ -19,7 +19,7 @@ use line::Point;
 use receiver::{Outcome, Receiver};
 
 // A point in levels, a squelched interval with its power, a hole with its count of intervals.
-#[derive(Drop)]
+#[derive(Clone, Copy)]
 pub enum Reading {
     Point(Levels),
     Squelch(f32),
@@ -27,7 +27,7 @@ pub enum Reading {
 }
 
 // What a receiver takes for a reading: a point in units, or a gap; or the number that refuses it, after the state's.
-#[derive(Drop)]
+#[derive(Clone, Copy)]
 pub enum Units {
     Refused(u8),
     Point(Point),

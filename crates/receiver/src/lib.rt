@@ -12,18 +12,18 @@ use deciding::SquaredUnits;
 use scrambler::{BitCount, Descrambled, Register};
 
 // A count of unit intervals, never to be taken for one of bits.
-#[derive(Drop)]
+#[derive(Clone, Copy)]
 pub struct Intervals(pub u32);
 
 // The state that the next point is read against.
-#[derive(Drop)]
+#[derive(Clone, Copy)]
 pub enum Reference {
     Nothing,
     State(u8),
 }
 
 // A receiver's state: `line` holds the line bits since the last gap and the guard's count, `place` counts the unit intervals so far.
-#[derive(Drop)]
+#[derive(Clone, Copy)]
 pub struct Receiver {
     pub mode: u8,
     pub role: u8,
@@ -34,7 +34,7 @@ pub struct Receiver {
 
 // A point's w line bits and data bits, each a number with the first in time highest. The first `unsettled` data bits are
 // unsettled, and 0 in `plain`.
-#[derive(Drop)]
+#[derive(Clone, Copy)]
 pub struct Group {
     pub line: u8,
     pub plain: u8,
@@ -43,7 +43,7 @@ pub struct Group {
 
 // What a call gives. A refusal gives its number alone; the other cases hand back the next state, those of a decided point also the
 // squared distance to its state's sent point.
-#[derive(Drop)]
+#[derive(Clone, Copy)]
 pub enum Outcome {
     Refused(u8),
     Referenced(SquaredUnits, Receiver),
@@ -52,7 +52,7 @@ pub enum Outcome {
 }
 
 // A receiver just made, or the number that refuses its mode or role.
-#[derive(Drop)]
+#[derive(Clone, Copy)]
 pub enum Started {
     Refused(u8),
     Ready(Receiver),

@@ -9,11 +9,11 @@ ghost use Rattle.scrambler.specs.Group.{scrambled, guard_mode, descrambled};
 ghost use Rattle.scrambler.specs.Windows.{mixed_at_once, differ_at_once, inversions, count_over};
 
 // A count of bits, never to be taken for one of unit intervals.
-#[derive(Drop)]
+#[derive(Clone, Copy)]
 pub struct BitCount(pub u8);
 
 // The last line bits as a number, the newest lowest, how many there are, and the guard's count.
-#[derive(Drop)]
+#[derive(Clone, Copy)]
 pub struct Register {
     pub bits: u32,
     pub held: BitCount,
@@ -21,14 +21,14 @@ pub struct Register {
 }
 
 // A group of line bits, the first in time highest, and the register after it.
-#[derive(Drop)]
+#[derive(Clone, Copy)]
 pub struct Scrambled {
     pub line: u8,
     pub next: Register,
 }
 
 // A group of data bits, the first in time highest, how many of the first are unsettled, and the register after it.
-#[derive(Drop)]
+#[derive(Clone, Copy)]
 pub struct Descrambled {
     pub plain: u8,
     pub unsettled: BitCount,
@@ -300,7 +300,7 @@ pub fn held_after(mode: u8, held: u8) -> u8
 // ---- with the guard
 
 // What the guard does to a group: the bits that it inverts, the first in time highest, and its count after them.
-#[derive(Drop)]
+#[derive(Clone, Copy)]
 struct Guarded {
     count: u8,
     inverted: u8,

@@ -8,7 +8,8 @@ use native.Mathlib.Omega.{arith}
 use borrow.Author.Tests.{eq-eqb, le-leb}
 use lib.Dec.{T, eqb, leb}
 use lib.IntN.{ℤ}
-use lib.ListN.{length, drop, length-drop, length-append}
+use Rattle.line.specs.Point.{sent_point}
+use lib.ListN.{set, length, drop, length-drop, length-append}
 use lib.Seq.{sets, length-sets, take-append-le, drop-append-le}
 use Rattle.line.specs.Table.{every}
 use Rattle.line.specs.Mode.{width}
@@ -68,7 +69,7 @@ after_mode s (g ∷ gs) = after_mode (after_group s g) gs ∙ group_mode s g
 sets-states : (m : ℕ) (out : List ℤ) (k : ℕ) (ss us : List ℕ) → sets out k (numbers m (ss ++ us)) ≡ sets (sets out k (numbers m ss)) (k + 2 * length ss) (numbers m us)
 sets-states m out k [] us = ap (λ (i : ℕ). sets out i (numbers m us)) (let e : k ≡ k + 2 * 0 = omega arith in e)
 sets-states m out k (s ∷ ss) us =
-    sets-states m _ (suc (suc k)) ss us
+    sets-states m (set (set out k (sent_point m s).re) (suc k) (sent_point m s).im) (suc (suc k)) ss us
     ∙ ap (λ (i : ℕ). sets (sets out k (numbers m (s ∷ ss))) i (numbers m us)) (let e : suc (suc k) + 2 * length ss ≡ k + 2 * suc (length ss) = omega arith in e)
 
 length-states : (s : Sender) (gs : List (List ℕ)) → length (sent_states s gs) ≡ length gs

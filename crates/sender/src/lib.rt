@@ -13,7 +13,7 @@ ghost use Rattle.sender.specs.Sender.{fields_ok, state_refusal, has_room, data_r
 ghost use Rattle.sender.specs.Open.{length_ok, open_refusal, opened, training_numbers, open_answer, open_numbers};
 
 // What a sending call needs and hands on.
-#[derive(Drop)]
+#[derive(Clone, Copy)]
 pub struct Sender {
     pub mode: u8,
     pub role: u8,
@@ -22,7 +22,7 @@ pub struct Sender {
 }
 
 // A refusal's number alone, or the next state.
-#[derive(Drop)]
+#[derive(Clone, Copy)]
 pub enum Sent {
     Refused(u8),
     Ready(Sender),

@@ -8,7 +8,7 @@ ghost use Rattle.settled.specs.Run.{data_in, data_of_bytes, any_settled, all_set
 ghost use Rattle.settled.specs.Points.{at_most, points_bits};
 
 // The point at which a run begins, how many points it has, and how many settled data bits.
-#[derive(Drop)]
+#[derive(Clone, Copy)]
 pub struct Run {
     pub first: usize,
     pub points: usize,
@@ -16,7 +16,7 @@ pub struct Run {
 }
 
 // A refusal's number alone, or the run.
-#[derive(Drop)]
+#[derive(Clone, Copy)]
 pub enum Taken {
     Refused(u8),
     Found(Run),

@@ -117,7 +117,7 @@ fn next_of(s: &[u8], i: usize) -> usize
 
 // What a walk along the chain finds: whether it ends within the store, whether its records keep to the layout, their
 // intervals, and the last and the greatest index.
-#[derive(Drop)]
+#[derive(Clone, Copy)]
 struct Trail {
     ends: bool,
     fine: bool,
@@ -183,14 +183,14 @@ fn follow(s: &[u8]) -> Trail
 }
 
 // What an append has to know of an accepted store: the chain's last and greatest index, and the total.
-#[derive(Drop)]
+#[derive(Clone, Copy)]
 pub struct View {
     pub last: usize,
     pub greatest: usize,
     pub total: usize,
 }
 
-#[derive(Drop)]
+#[derive(Clone, Copy)]
 pub enum Inspected {
     Refused(u8),
     Accepted(View),
@@ -325,7 +325,7 @@ fn put_chain(s: &[u8], out: &mut [i64], offset: usize)
 }
 
 // What reading gives: the number that refuses it, or how many events were written.
-#[derive(Drop)]
+#[derive(Clone, Copy)]
 pub enum Readout {
     Refused(u8),
     Events(usize),

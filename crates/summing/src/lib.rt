@@ -14,7 +14,7 @@ use octets::{get8, get16, get32};
 use store::{FIRST_AT, Inspected};
 
 // P, L and G of events: decided points, lost intervals, gaps.
-#[derive(Drop)]
+#[derive(Clone, Copy)]
 pub struct EventSums {
     pub points: u64,
     pub lost: u64,
@@ -101,7 +101,7 @@ fn chain_sums(s: &[u8]) -> EventSums
 }
 
 // What summing gives: the number that refuses the store, or its sums.
-#[derive(Drop)]
+#[derive(Clone, Copy)]
 pub enum Summed {
     Refused(u8),
     Sums(EventSums),

@@ -327,7 +327,7 @@ module _ (p : Point) (ok : in_range p ≡ true) where
           head = head_in g₂ 8 (le32 (total s + 1)) (omega arith) (omega arith)
               ∙ head_out g₁ i (4 + 4 * k) pair pair_fits (omega (arith, in_chain.1)) ∙ head_out s i 3 ((k + 1) ∷ []) (omega arith) (omega (arith, in_chain.1)) ∙ o.head;
           run = rw (next-grown 0) (run_same (next s) (next g₃) (next s 0) (h ∷ c) next-grown o.run);
-          within = rw m o.within;
+          within = subst (λ (n : ℕ). All (λ i. i < n) (h ∷ c)) (sym m) o.within;
           records = all_zip (h ∷ c) (λ x p q. by_test (eqb x i)
               (λ e. subst (λ (y : ℕ). record_ok (rec g₃ y) ≡ true) (sym (eqb-true x i e)) grown_last.fine)
               (λ e. ap record_ok (other x p (eqb-false x i e)) ∙ q)) (run_positive (next s) (next s 0) (h ∷ c) o.run) o.records;

@@ -19,7 +19,7 @@ use Rattle.store.specs.Walk.{Viewed}
 use Rattle.track.specs.declared.End.{End}
 use Rattle.store.specs.Chain.{greatest, last_of}
 use Rattle.store.specs.Layout.{point, count, rec, write, link_in, total_at, held, point_bytes, point_record}
-use Rattle.store.specs.Store.{chain, total}
+use Rattle.store.specs.Store.{chain}
 use Rattle.track.specs.Append.{new_index, has_room, point_appended, point_number}
 use Rattle.store.specs.Store.{last_in}
 use Rattle.track.specs.Points.{spaces}

@@ -27,7 +27,7 @@ use Rattle.store.proofs.Sounds.{accepted_sound, sound_last}
 use Rattle.store.proofs.Views.{told_refused}
 use Rattle.track.specs.declared.End.{End}
 use Rattle.track.specs.Append.{most_intervals, is_full, has_room, point_appended, point_number, point_result}
-use Rattle.track.specs.Calls.{after, taken, EachAccepted}
+use Rattle.track.specs.Calls.{call_result, after, taken, EachAccepted}
 use Rattle.track.specs.Points.{point_events, spaces, points_number, points_result, JustWhen, AllTaken}
 use Rattle.track.specs.Placing.{Ends, Reach, placed, next_end}
 use Rattle.track.proofs.Answers.{point_free, free_point, spaces_some, point_done}
@@ -100,7 +100,7 @@ just_when s zs h = (
 
 taken_all : (s : List ℕ) (es : List Event) → EachAccepted s es → taken s es ≡ es
 taken_all s [] n = refl
-taken_all s (e ∷ es) n = sym (left_done _ _ _ n.0) ∙ ap (λ (l : List Event). e ∷ l) (taken_all _ es n.1)
+taken_all s (e ∷ es) n = sym (left_done _ _ _ n.0) ∙ ap (λ (l : List Event). e ∷ l) (taken_all (call_result s e) es n.1)
 
 pub all_taken : AllTaken
 all_taken s zs e = let f = number_fits s zs e in taken_all s (point_events zs) (none_refused s (pairs zs) f.1 f.2)

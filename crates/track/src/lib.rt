@@ -171,7 +171,7 @@ pub fn append_lost(store: &mut [u8], n: u32) -> u8
 
 // The end of a chain: its last and its greatest index, and how many points the last record holds, 7 where it has no room for
 // one.
-#[derive(Drop)]
+#[derive(Clone, Copy)]
 struct End {
     last: usize,
     greatest: usize,

@@ -18,7 +18,7 @@ use track::{append_lost, append_point, append_points};
 // ---- a capture into a store
 
 // What became of an event: its bytes, 0 where it is not taken, and the number that refused it, or 0.
-#[derive(Drop)]
+#[derive(Clone, Copy)]
 struct Step {
     size: usize,
     number: u8,
@@ -45,7 +45,7 @@ fn append_next(store: &mut [u8], input: &[u8], at: usize) -> Step
 }
 
 // Points that stand one after the other in a capture, re and im in turn, and how many there are.
-#[derive(Drop)]
+#[derive(Clone, Copy)]
 struct Run {
     numbers: [i16; 128],
     count: usize,
@@ -90,7 +90,7 @@ fn append_run(store: &mut [u8], input: &[u8], at: usize) -> usize
 }
 
 // How many events were taken, their bytes, and the number that refused the next one, 0 where none was.
-#[derive(Drop)]
+#[derive(Clone, Copy)]
 pub struct Appended {
     pub taken: usize,
     pub used: usize,
@@ -183,7 +183,7 @@ fn put_chain(s: &[u8], out: &mut [u8]) -> usize
 }
 
 // A refusal's number alone, or the length of the capture.
-#[derive(Drop)]
+#[derive(Clone, Copy)]
 pub enum Captured {
     Refused(u8),
     Written(usize),
@@ -205,7 +205,7 @@ pub fn put_events(store: &[u8], out: &mut [u8]) -> Captured
 // ---- the bytes of a store that hold its chain
 
 // A refusal's number alone, or how many bytes.
-#[derive(Drop)]
+#[derive(Clone, Copy)]
 pub enum Kept {
     Refused(u8),
     Bytes(usize),

@@ -12,7 +12,7 @@ ghost use Rattle.training.specs.Ahead.{ahead27, ahead, ahead_start};
 mod middle; // the table of V.27 ter's middle changes
 
 // What sending changes: the reference and the register of line bits.
-#[derive(Drop)]
+#[derive(Clone, Copy)]
 pub struct Coder {
     pub reference: u8,
     pub line: scrambler::Register,

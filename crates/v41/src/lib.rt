@@ -9,7 +9,7 @@ ghost use Rattle.v41.specs.Block.{is_size, bits_refusal, check_answer, CheckTold
 ghost use Rattle.v41.specs.Register.{next, register};
 
 // Whether a block is accepted, or the number that refuses it.
-#[derive(Drop)]
+#[derive(Clone, Copy)]
 pub enum Checked {
     Refused(u8),
     Whole,
@@ -17,7 +17,7 @@ pub enum Checked {
 }
 
 // The count of bytes written, or the number that refuses.
-#[derive(Drop)]
+#[derive(Clone, Copy)]
 pub enum Made {
     Refused(u8),
     Written(usize),

@@ -9,7 +9,7 @@ ghost use Rattle.verdicts.specs.Verdicts.{verdict, line, text, taken, lines_refu
 use v41::Checked;
 
 // A refusal's number; the length of the text, and how many bits the blocks have that it tells of.
-#[derive(Drop)]
+#[derive(Clone, Copy)]
 pub enum Lines {
     Refused(u8),
     Written(usize, usize),

@@ -1,0 +1,7 @@
+use Rattle.deciding.proofs.one_if.Goals as goal
+
+pub returns-then-t : goal.returns-then-t
+returns-then-t c = rw c.if-t.true
+
+pub returns-else-t : goal.returns-else-t
+returns-else-t c = rw c.if-t.false

@@ -1,0 +1,7 @@
+use Rattle.octets.proofs.Numbers.{u32_past}
+use mathlib.Core.Path.{sym}
+use native.Mathlib.Omega.{arith}
+use Rattle.octets.proofs.get32.Goals as goal
+
+pub returns : goal.returns
+returns c = (sym (u32_past c.args.s.now c.args.at c.if-at-s.false), omega arith)

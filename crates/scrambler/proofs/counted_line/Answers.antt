@@ -1,0 +1,21 @@
+use Prim.Native.Nat.{ℕ}
+use mathlib.Core.Path.{refl, ap, ◌∙◌}
+use Rattle.scrambler.specs.Register.{register}
+use Rattle.scrambler.specs.Group.{scrambled}
+use Rattle.scrambler.proofs.GroupLaws.{small_column, mixed_column, scramble_law}
+use Rattle.scrambler.proofs.counted_line.Reads as reads
+use Rattle.scrambler.proofs.counted_line.Lts as lts
+use Rattle.line.proofs.capacity_of.Reads as capacity-of-reads
+use Rattle.line.proofs.column_of.Reads as column-of-reads
+use Rattle.scrambler.proofs.guard_of.Reads as guard-of-reads
+use Rattle.scrambler.proofs.mixed.Reads as mixed-reads
+use Rattle.scrambler.proofs.push_counted.Reads as push-counted-reads
+use Rattle.scrambler.proofs.counted_line.Goals as goal
+
+pub mixed-all-requires : goal.mixed-all-requires
+mixed-all-requires c = small_column c.args.mode _ c.column_of-column.ensures
+
+pub returns : goal.returns
+returns c =
+    scramble_law _ _ _ _ _ _ _ _ _ (c.mixed-all.ensures.value ∙ mixed_column c.args.mode _ _ _ _ c.column_of-column.ensures) c.guard_of-guarded.ensures.inverted_value.0 refl refl c.push_counted.ensures.0 c.push_counted.ensures.1 c.push_counted.ensures.2 c.guard_of-guarded.ensures.inverted_value.1
+    ∙ ap (λ (k : ℕ). scrambled c.args.mode c.args.role (register c.args.n k c.args.count) c.args.plain) c.capacity_of-full.ensures

@@ -1,0 +1,14 @@
+use mathlib.Core.Path.{sym, ◌∙◌}
+use native.Mathlib.Omega.{arith}
+use Rattle.scrambler.proofs.GroupLaws.{plain_guard}
+use Rattle.scrambler.proofs.guard_of.Reads as reads
+use Rattle.scrambler.proofs.guard_of.Lts as lts
+use Rattle.line.proofs.has_guard.Reads as has-guard-reads
+use Rattle.scrambler.proofs.guard.Reads as guard-reads
+use Rattle.scrambler.proofs.guard_of.Goals as goal
+
+pub guard-requires : goal.guard-requires
+guard-requires c = sym c.has_guard.ensures ∙ c.if-has_guard.true
+
+pub returns : goal.returns
+returns c = record { inverted_value = plain_guard _ _ _ _ (sym c.has_guard.ensures ∙ c.if-has_guard.false); inverted_bound = omega arith }

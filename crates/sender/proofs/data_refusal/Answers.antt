@@ -1,0 +1,14 @@
+use Rattle.sender.specs.Sender.{data_refusal}
+use native.Mathlib.Omega.{arith}
+use Rattle.line.proofs.ByMode.{width_range}
+use Rattle.sender.proofs.data_refusal.Goals as goal
+
+pub nonzero_div-input : goal.nonzero_div-input
+nonzero_div-input c = omega (arith, width_range c.args.mode)
+
+pub nonzero_rem-input : goal.nonzero_rem-input
+nonzero_rem-input c = omega (arith, width_range c.args.mode)
+
+pub returns : goal.returns
+unfolding data_refusal
+returns c = cc
