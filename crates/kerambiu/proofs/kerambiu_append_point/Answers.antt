@@ -1,0 +1,5 @@
+use mir.Facts.{to_z-of_z}
+use Rattle.kerambiu.proofs.kerambiu_append_point.Goals as goal
+
+pub returns : goal.returns
+returns c = rw (to_z-of_z c.ranges.re, to_z-of_z c.ranges.im) at c.append_point.ensures

@@ -1,0 +1,13 @@
+use mathlib.Core.Path.{◌∙◌, ap}
+use Prim.Native.Nat.{ℕ}
+use lib.Dec.{leb}
+use lib.ListN.{length, length-set}
+use Rattle.line.specs.Refusal.{need}
+use Rattle.kerambiu.proofs.tell_whole.Reads as reads
+use Rattle.kerambiu.proofs.tell_whole.Lts as lts
+use Rattle.line.proofs.need.Reads as need-reads
+use Rattle.octets.proofs.put8.Reads as put8-reads
+use Rattle.kerambiu.proofs.tell_whole.Goals as goal
+
+pub returns : goal.returns
+returns c = (c.need.ensures ∙ ap (λ (n : ℕ). need (leb 1 n) 7 0) (ap length c.put8.ensures ∙ length-set c.args.whole.now 0 _), c.put8.ensures)

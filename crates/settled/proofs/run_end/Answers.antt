@@ -1,0 +1,19 @@
+use mathlib.Core.Bool.{not}
+use Prim.Native.Nat.{◌-◌}
+use mathlib.Core.Path.{ap, refl}
+use borrow.Author.Rules.{rules}
+use Rattle.settled.specs.Run.{following}
+use Rattle.settled.proofs.ByteLaws.{counted_end, ends_here, goes_on}
+use Rattle.settled.proofs.run_end.Goals as goal
+
+pub loop-k-init : goal.loop-k-init
+loop-k-init c = (search rules, refl)
+
+pub returns-then-not-all_settled : goal.returns-then-not-all_settled
+returns-then-not-all_settled c = (search rules, ends_here _ _ _ c.loop-k.k _ c.requires.1 (search rules) _ c.loop-k.invariant.1 c.all_settled.ensures (ap not c.if-not-all_settled.true))
+
+pub loop-k-preserved : goal.loop-k-preserved
+loop-k-preserved c = (search rules, goes_on _ _ _ c.loop-k.k _ c.requires.1 (search rules) _ c.loop-k.invariant.1 c.all_settled.ensures (ap not c.if-not-all_settled.false))
+
+pub returns : goal.returns
+returns c = (search rules, counted_end following _ _ _ c.loop-k.k _ c.loop-k.invariant.1 (search rules) refl)
