@@ -7,7 +7,6 @@ use native.Mathlib.Omega.{arith}
 use lib.ListN.{length, take, drop, length-drop}
 use lib.Seq.{drop-drop, take-nil}
 use Rattle.store.specs.Chain.{sum_over}
-use Rattle.store.specs.Layout.{Event}
 use Rattle.capture.specs.Capture.{first, size, events_in}
 use Rattle.capture.specs.Skip.{skipped_of}
 use Rattle.capture.proofs.BlockLaws.{Begin, none, one, begin, events_none, events_one}

@@ -5,7 +5,7 @@ use mathlib.Core.Bool.{Bool, true, false, cond, not}
 use native.Mathlib.Nat.{not-suc-le-zero, le_of_suc-le-suc, mul-one, mul_assoc, mul_comm, le-div_iff_mul-le, le_trans, mul-le-mul, le-add_right, mul-le-mul_right, mul_right_comm, div-mul-le_self}
 use native.Mathlib.Omega.{arith}
 use borrow.Author.Tests.{leb-true}
-use mathlib.Core.Logic.{◌⊎◌, ⊎_elim}
+use mathlib.Core.Logic.{⊎_elim}
 use lib.Dec.{T, eqb, leb, lit≤}
 use lib.IntN.{ℤ, pos, negsuc, nat_abs, neg_ℤ}
 use lib.Pow.{pow-add, pow_pos, pow_mono, shl_lt, shl_exact}

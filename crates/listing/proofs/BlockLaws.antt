@@ -23,7 +23,7 @@ use Rattle.summing.specs.declared.EventSums.{EventSums}
 use Rattle.summing.specs.Sums.{sums_of, plus}
 use Rattle.summing.proofs.SumLaws.{parts_add, plus_assoc}
 use Rattle.capture.specs.Capture.{mark_number, first, size, then, events_from, events_in}
-use Rattle.listing.specs.Text.{line_text, taken, lines, chain_text, mode_in, role_in, text}
+use Rattle.listing.specs.Text.{line_text, taken, lines, chain_text, mode_in, role_in}
 use Rattle.listing.specs.Stream.{until_refused, first_refused, sums_ok, block_events, block_taken, listed_events}
 use Rattle.listing.specs.LastLine.{small_sums}
 use Rattle.listing.specs.Blocks.{OneAfterAnother, StopsThere, NoneCut, EachGoesOn, AsListed}

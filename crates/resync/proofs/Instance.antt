@@ -14,7 +14,6 @@ use Rattle.scrambler.specs.Scramble.{mix}
 use Rattle.line.specs.Refusal.{mode_refusal}
 use Rattle.receiver.specs.Receiver.{fresh_receiver, is_fresh, fields_ok, state_refusal, has_room, event_refusal, refusal, state_answer, point_answer, event_answer, answer, forgotten, state_line, state_next, point_next, event_next, next}
 use Rattle.training.specs.Coder.{coding}
-use Rattle.sender.specs.Sender as Sending
 use Rattle.sender.specs.Sender.{data_refusal, send_refusal, grouped, after_group, send_answer, send_numbers, fields_ok as sendFieldsOk, state_refusal as sendStateRefusal, has_room as sendHasRoom}
 use lib.Ieee.{neg}
 use Rattle.levels.specs.Levels.{is_finite, rounded}

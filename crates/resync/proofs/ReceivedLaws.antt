@@ -20,7 +20,7 @@ use Rattle.scrambler.specs.Register.{register, fresh}
 use Rattle.scrambler.specs.Scramble.{Datum, descramble}
 use Rattle.receiver.specs.Calls.{Heard, decided_as, data_of, decided_states, lines_from2, data_heard, row}
 use Rattle.receiver.specs.Turn.{lines, Turned}
-use Rattle.receiver.proofs.ShapeLaws.{Follows, Shape}
+use Rattle.receiver.proofs.ShapeLaws.{Shape}
 use Rattle.receiver.proofs.TurnLaws.{lines→turned, turned→lines}
 use Rattle.resync.specs.Assured.{assured_point, until_reset, unassured, data_from, assured_data, AllSettled}
 use Rattle.resync.proofs.RowLaws.{drop-row, forget, forget_reset, all_settled, all_drop}

@@ -13,7 +13,7 @@ use Rattle.line.specs.Mode.{guarded, capacity}
 use Rattle.line.proofs.Tests.{and_split}
 use Rattle.scrambler.specs.declared.Register.{Register}
 use Rattle.scrambler.specs.Register.{fresh, counting, differs, push, pushes}
-use Rattle.scrambler.specs.Scramble.{Datum, descramble}
+use Rattle.scrambler.specs.Scramble.{descramble}
 use Rattle.scrambler.proofs.GroupLaws.{descramble_append, length-descramble}
 use Rattle.scrambler.proofs.RegisterLaws.{same_after, same_after_reset, pushes_append, full_push}
 use Rattle.line.specs.Table.{All}

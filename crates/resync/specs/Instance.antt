@@ -7,7 +7,7 @@ use Rattle.std.specs.Float.{nan, fin}
 use Rattle.line.specs.Point.{turned}
 use Rattle.levels.specs.Levels.{turned_levels}
 use Rattle.scrambler.specs.Register.{register}
-use Rattle.scrambler.specs.Scramble.{Datum, settled}
+use Rattle.scrambler.specs.Scramble.{settled}
 use Rattle.receiver.specs.declared.Receiver.{Receiver}
 use Rattle.receiver.specs.Receiver.{point, gap, fresh_receiver}
 use Rattle.line.specs.Table.{All}

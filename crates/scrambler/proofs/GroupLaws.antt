@@ -1,20 +1,20 @@
 -- Descrambling: the marks stand in front, the scrambler is undone, and what the functions compute of a group. Assumes nothing.
 use Prim.Native.Nat.{ℕ, zero, suc, ◌+◌, ◌*◌, ◌-◌, ◌^◌, ◌/◌, ◌%◌, ◌<◌, ◌≤◌, min}
 use mathlib.Core.Path.{◌≡◌, refl, sym, ◌∙◌, ap, ap₂, subst, subst⁻¹}
-use mathlib.Core.Bool.{Bool, true, false, ◌&&◌, ◌||◌, cond}
+use mathlib.Core.Bool.{Bool, true, false, cond}
 use mathlib.Core.List.{List, [], ◌∷◌, ◌++◌}
 use native.Mathlib.Nat.{mod-le, mod-lt, mod-eq_of_lt, mul_assoc, mul-add-mod_self_right, sub-zero}
 use native.Mathlib.Decide.{dec_le}
 use native.Mathlib.Omega.{arith}
 use borrow.Author.Tests.{le-leb, lt-leb, ltb-false}
-use lib.Dec.{T, eqb, leb, ltb, ltb→lt, lt→ltb}
+use lib.Dec.{T, leb, ltb, ltb→lt, lt→ltb}
 use lib.ListN.{length}
 use lib.Bits.{bit_xor, xor_lt, xor_zero_r}
 use lib.Pow.{pow_pos, pow-add}
 use Rattle.line.specs.Table.{every}
 use Rattle.line.specs.Mode.{column, by_mode, width, far_tap, guarded, capacity}
 use Rattle.line.proofs.TableLaws.{and_left, and_right, and_intro}
-use Rattle.line.proofs.ByMode.{column-low, column-most, same-column, by_all, width_range, kept_guarded, kept_plain, guarded-width}
+use Rattle.line.proofs.ByMode.{column-low, column-most, same-column, by_all, width_range, kept_guarded, kept_plain}
 use Rattle.scrambler.specs.declared.Register.{Register}
 use Rattle.scrambler.specs.declared.Scrambled.{Scrambled}
 use Rattle.scrambler.specs.declared.Descrambled.{Descrambled}

@@ -1,7 +1,7 @@
 -- The guard along a group: all bits together, from the first that comes after 12 line bits. Assumes nothing.
 use Prim.Native.Nat.{ℕ, zero, suc, ◌+◌, ◌*◌, ◌-◌, ◌^◌, ◌/◌, ◌%◌, ◌<◌, ◌≤◌, min}
-use mathlib.Core.Path.{◌≡◌, refl, sym, ◌∙◌, ap, ap₂, subst}
-use mathlib.Core.Bool.{Bool, true, false, ◌&&◌, cond}
+use mathlib.Core.Path.{◌≡◌, refl, sym, ◌∙◌, ap}
+use mathlib.Core.Bool.{Bool, ◌&&◌, cond}
 use mathlib.Core.List.{List, [], ◌∷◌}
 use native.Mathlib.Nat.{mod-mod, div-le_self, pow-le-pow_right}
 use native.Mathlib.Decide.{dec_le, dec_lt}
@@ -10,15 +10,15 @@ use mir.Syntax.{w8}
 use mir.Val.{Fits}
 use borrow.Author.Tests.{le-leb, lt-leb, lt-ltb, le-ltb}
 use lib.Bits.{bit_or, or_lt}
-use lib.Dec.{T, eqb, leb, ltb, eqb→eq, lit<}
+use lib.Dec.{T, eqb, ltb, eqb→eq, lit<}
 use lib.ListN.{length}
 use lib.Pow.{mod-mod-pow}
 use Rattle.line.specs.Table.{every, below}
-use Rattle.line.specs.Mode.{far_tap, guarded, capacity}
+use Rattle.line.specs.Mode.{guarded, capacity}
 use Rattle.line.proofs.TableLaws.{and_left, and_right, below_at}
 use Rattle.scrambler.specs.Bits.{bits, value}
 use Rattle.scrambler.proofs.BitLaws.{bits-same}
-use Rattle.scrambler.specs.Windows.{inversion, counted, inversions, count_over}
+use Rattle.scrambler.specs.Windows.{inversions, count_over}
 
 -- ALL BITS TOGETHER
 

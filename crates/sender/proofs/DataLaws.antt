@@ -12,7 +12,7 @@ use Rattle.line.specs.declared.Point.{Point}
 use Rattle.line.specs.Table.{every}
 use Rattle.line.specs.Mode.{width}
 use Rattle.line.specs.Point.{sent_point}
-use Rattle.scrambler.specs.Bits.{is_bit, bits}
+use Rattle.scrambler.specs.Bits.{is_bit}
 use Rattle.training.specs.Coder.{numbers}
 use Rattle.sender.specs.declared.Sender.{Sender}
 use Rattle.sender.specs.declared.Sent.{Sent}

@@ -20,7 +20,6 @@ use Rattle.line.proofs.RefusalLaws.{need_intro}
 use Rattle.scrambler.specs.Bits.{is_bit}
 use Rattle.training.specs.Coder.{numbers}
 use Rattle.sender.specs.declared.Sender.{Sender}
-use Rattle.sender.specs.declared.Sent.{Sent}
 use Rattle.sender.specs.declared.Sent.TheVariants.{Refused, Ready}
 use Rattle.sender.specs.Sender.{has_room, data_refusal, send_refusal, groups, grouped, after_group, after_groups, sent_states, send_answer, send_numbers}
 use Rattle.sender.specs.Calls.{SentTogether}

@@ -7,7 +7,7 @@ use native.Mathlib.Nat.{div-add-mod', add-zero}
 use native.Mathlib.Decide.{dec_le}
 use native.Mathlib.Omega.{arith}
 use borrow.Author.Tests.{eq-eqb, le-leb, lt-leb}
-use lib.Dec.{T, eqb, leb, ltb, eqb→eq, leb→le, ltb→lt}
+use lib.Dec.{T, eqb, leb, eqb→eq, leb→le, ltb→lt}
 use lib.ListN.{length, drop, length-take, length-drop}
 use Rattle.line.specs.Table.{every}
 use Rattle.line.specs.Mode.{is_mode, is_role, is_state, width, guarded, capacity}
@@ -20,8 +20,6 @@ use Rattle.training.specs.declared.Coder.{Coder}
 use Rattle.training.proofs.CoderLaws.{Ready as CanSend, ready_coding}
 use Rattle.training.proofs.TrainingLaws.{ready_trained}
 use Rattle.sender.specs.declared.Sender.{Sender}
-use Rattle.sender.specs.declared.Sent.{Sent}
-use Rattle.sender.specs.declared.Sent.TheVariants.{Ready}
 use Rattle.sender.specs.Sender.{coder_of, sender_of, fields_ok, state_refusal, groups, grouped, after_group, after_groups, send_refusal, answered, send_answer}
 use Rattle.sender.specs.Open.{open_refusal, opened, open_answer}
 use Rattle.sender.specs.Calls.{Passes, OpenedPasses, SentPasses}

@@ -2,14 +2,14 @@
 use mathlib.Core.Path.{◌≡◌, refl}
 use mathlib.Core.Bool.{Bool, true, false}
 use mathlib.Core.List.{List, [], ◌∷◌}
-use Prim.Native.Nat.{ℕ, ◌+◌, ◌≤◌}
+use Prim.Native.Nat.{◌≤◌}
 use native.Mathlib.Omega.{arith}
 use lib.Dec.{T}
 use Rattle.line.specs.Point.{in_range}
 use Rattle.line.specs.Table.{All}
 use Rattle.store.specs.Chain.{sum_over}
 use Rattle.store.specs.Layout.{Event, point, lost, intervals}
-use Rattle.store.specs.Store.{events, total}
+use Rattle.store.specs.Store.{events}
 use Rattle.store.proofs.Records.{total-at}
 use Rattle.store.proofs.Fines.{Fine, events_fine, events_span}
 use Rattle.capture.specs.Laws.{Storable}

@@ -12,7 +12,6 @@ use lib.Seq.{drop-drop, length-take-le, take_at, drop_at}
 use Rattle.line.specs.declared.Point.{Point as Place}
 use Rattle.line.specs.Point.{at, pairs}
 use Rattle.line.proofs.PointLaws.{pairs-length, pairs_split}
-use Rattle.line.specs.Refusal.{accepted}
 use Rattle.line.proofs.Tests.{by_test}
 use Rattle.line.proofs.RefusalLaws.{left_done, left_kept, or_some}
 use Rattle.octets.specs.Number.{u32}

@@ -1,7 +1,6 @@
 -- Document 01, "Sender": "Data bits are scrambled and taken w at a time; each group, coded against the reference, is one point and the
 -- new reference"; "a point is re, then im".
 use Rattle.std.specs.Prelude.{ℕ, List, [], ◌∷◌, ℤ}
-use Rattle.line.specs.declared.Point.{Point}
 use Rattle.line.specs.Mode.{face}
 use Rattle.coding.specs.Code.{coded}
 use Rattle.line.specs.Point.{sent_point}

@@ -1,8 +1,8 @@
 -- What `check` and `make` answer, by the tests that they make. Assumes nothing.
-use Prim.Native.Nat.{ℕ, zero, suc, ◌+◌, ◌-◌, ◌≤◌, ◌<◌}
+use Prim.Native.Nat.{ℕ, zero, suc, ◌+◌, ◌-◌, ◌≤◌}
 use mathlib.Core.Path.{◌≡◌, refl, sym, ap, ap₂, ◌∙◌, subst}
 use mathlib.Core.Bool.{Bool, true, false, ◌||◌, cond}
-use mathlib.Core.List.{List, [], ◌∷◌, ◌++◌}
+use mathlib.Core.List.{List}
 use native.Mathlib.Omega.{arith}
 use borrow.Author.Tests.{eq-eqb, eqb-true}
 use borrow.Rule.Slice.PartMut.{put_mid}
@@ -16,9 +16,7 @@ use Rattle.line.proofs.Sets.{sets_then}
 use Rattle.bits.proofs.Parts.{part_written}
 use Rattle.scrambler.specs.Bits.{is_bit, bits}
 use Rattle.v41.specs.declared.Checked.{Checked}
-use Rattle.v41.specs.declared.Checked.TheVariants as Checked
 use Rattle.v41.specs.declared.Made.{Made}
-use Rattle.v41.specs.declared.Made.TheVariants as Made
 use Rattle.v41.specs.Block.{sizes, is_size, leaves_nothing, check_bits, block, bits_refusal, check_refusal, check_answer, CheckTold, make_refusal, make_answer, make_bytes, MakeTold}
 use Rattle.v41.specs.Register.{register}
 use Rattle.v41.proofs.Theorems.{are_bits, size_least, bits_met, means_whole, means_broken, check_length, Room, make_met}

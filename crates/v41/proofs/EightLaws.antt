@@ -7,14 +7,14 @@ use native.Mathlib.Nat.{add_comm, mul_assoc, add_assoc, add-mul}
 use native.Mathlib.Omega.{arith}
 use lib.Bits.{bit_xor, xor_lt}
 use lib.Dec.{T, eqb, eqb→eq}
-use lib.ListN.{length, replicate, length-append, length-replicate}
+use lib.ListN.{length, replicate, length-append}
 use lib.Pow.{pow-add, shr-shr}
 use Rattle.line.specs.Table.{every, below}
 use Rattle.line.proofs.TableLaws.{below_at}
 use Rattle.scrambler.specs.Bits.{bits, value}
-use Rattle.scrambler.proofs.BitLaws.{length-bits, bits_are, value-bits}
-use Rattle.v41.specs.Polynomial.{plus, scaled, step, divided}
-use Rattle.v41.specs.Register.{next, register, folded, next_eight}
+use Rattle.scrambler.proofs.BitLaws.{bits_are, value-bits}
+use Rattle.v41.specs.Polynomial.{plus, step, divided}
+use Rattle.v41.specs.Register.{register, folded, next_eight}
 use Rattle.v41.proofs.PolynomialLaws.{Bits, bits_append, bits-zeros, are_zeros, plus_both, plus-zeros, zeros-plus, divided-length, divided-bits, divided-zeros, divided_linear}
 use Rattle.v41.proofs.Theorems.{are_bits, low as lower, low_bits}
 use Rattle.v41.proofs.RegisterLaws.{value-plus, register-divided}

@@ -1,20 +1,18 @@
 -- The theorems of specs/Laws. Assumes nothing.
 use Prim.Native.Nat.{ℕ, zero, suc, ◌+◌, ◌-◌, ◌%◌, ◌≤◌, ◌<◌}
-use mathlib.Core.Path.{◌≡◌, refl, sym, ap, ap₂, ◌∙◌, subst}
+use mathlib.Core.Path.{◌≡◌, refl, sym, ap, ◌∙◌, subst}
 use mathlib.Core.Logic.{◌⊎◌, inl, inr, ⊎_elim}
 use mathlib.Core.Bool.{Bool, true, false, cond}
 use mathlib.Core.List.{List, [], ◌∷◌, ◌++◌}
 use native.Mathlib.Omega.{arith}
 use native.Mathlib.Decide.{dec_le}
 use borrow.Author.Tests.{eq-eqb, eqb-true, leb-true}
-use lib.Dec.{T, eqb, leb, ltb, ltb→lt, lt→ltb, leb→le, eqb→eq}
+use lib.Dec.{T, eqb, leb, ltb, ltb→lt, lt→ltb, leb→le}
 use lib.ListN.{length, get_or, take, drop, replicate, length-append, get_or-eq_default, get_or-append}
 use lib.Seq.{sets, sets-eq, length-sets, take_at, drop_at, take-append-le, take-append_seam, drop-append_seam}
 use Rattle.v41.specs.declared.Checked.{Checked}
-use Rattle.v41.specs.declared.Checked.TheVariants as Checked
 use Rattle.v41.specs.declared.Made.{Made}
-use Rattle.v41.specs.declared.Made.TheVariants as Made
-use Rattle.line.specs.Table.{member, every}
+use Rattle.line.specs.Table.{every}
 use Rattle.line.specs.Refusal.{accepted}
 use Rattle.line.proofs.RefusalLaws.{need-zero, or_zero}
 use Rattle.line.proofs.Tests.{and_split, and_join}

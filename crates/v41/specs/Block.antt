@@ -7,9 +7,7 @@ use Rattle.line.specs.Refusal.{need, or_next, accepted}
 use Rattle.scrambler.specs.Bits.{is_bit}
 use Rattle.octets.specs.Number.{zeros}
 use Rattle.v41.specs.declared.Checked.{Checked}
-use Rattle.v41.specs.declared.Checked.TheVariants as Checked
 use Rattle.v41.specs.declared.Made.{Made}
-use Rattle.v41.specs.declared.Made.TheVariants as Made
 use Rattle.v41.specs.Polynomial.{remainder}
 
 -- "blocks of 260, 500, 980 or 3860 bits"

@@ -3,8 +3,6 @@ use mathlib.Core.Path.{refl, ◌∙◌}
 use native.Mathlib.Omega.{arith}
 use lib.ListN.{length, length-set}
 use Rattle.bits.proofs.Loops.{put_start, put_go, rest_go, put_end}
-use Rattle.bits.proofs.put_bits.Reads as reads
-use Rattle.bits.proofs.put_bits.Lts as lts
 use Rattle.bits.proofs.put_bits.Goals as goal
 
 pub loop-k-init : goal.loop-k-init

@@ -2,8 +2,6 @@ use Prim.Native.Nat.{◌-◌, ◌/◌, ◌^◌, ◌≤◌}
 use mathlib.Core.Path.{◌≡◌}
 use lib.ListN.{length, drop}
 use Rattle.scrambler.specs.Bits.{bits}
-use Rattle.bits.proofs.put_bits.Reads as reads
-use Rattle.bits.proofs.put_bits.Lts as lts
 use Rattle.bits.proofs.put_bits.Given as goal
 
 abbrev pub invariant-loop-k : goal.invariant-loop-k

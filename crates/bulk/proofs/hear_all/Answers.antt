@@ -1,6 +1,6 @@
 use mathlib.Core.Logic.{⊎_elim}
 use native.Mathlib.Omega.{arith}
-use Prim.Native.Nat.{◌-◌, ◌/◌}
+use Prim.Native.Nat.{◌/◌}
 use lib.ListN.{length}
 use Rattle.line.proofs.Tests.{lt_or_ge}
 use Rattle.bulk.proofs.BlockLaws.{hearing_start, hearing_then, hearing_rows, hearing_here, hearing_holds, hearing_end}

@@ -2,9 +2,7 @@ use mir.Facts.{to_z-of_z}
 use mir.Syntax.{w16}
 use borrow.Author.Rules.{sfits_of}
 use mathlib.Core.Path.{refl}
-use mathlib.Core.Bool.{true}
 use native.Mathlib.Omega.{arith}
-use Prim.Native.Nat.{◌-◌}
 use Rattle.bulk.proofs.BlockLaws.{hearing_mode, from_constellation, run_start, run_room, run_again, held_full}
 use Rattle.bulk.proofs.hear_run.Goals as goal
 

@@ -7,10 +7,6 @@ use Rattle.line.specs.Point.{at}
 use Rattle.store.specs.Layout.{point, lost}
 use Rattle.capture.proofs.FirstLaws.{first_past, first_point, first-cut, first_lost}
 use borrow.Author.Rules.{rules, sfits_of}
-use Rattle.capture.proofs.next_event.Reads as reads
-use Rattle.capture.proofs.next_event.Lts as lts
-use Rattle.octets.proofs.get32.Reads as get32-reads
-use Rattle.octets.proofs.get_i16.Reads as get-i16-reads
 use Rattle.capture.proofs.next_event.Goals as goal
 
 -- src/lib.rt:23:9

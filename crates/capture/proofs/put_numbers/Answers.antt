@@ -1,8 +1,8 @@
-use Prim.Native.Nat.{◌-◌}
 use mathlib.Core.Path.{refl, sym, ap, ◌∙◌}
 use native.Mathlib.Omega.{arith}
-use borrow.Author.Rules.{rules, sfits_of}
-use lib.ListN.{drop}
+use borrow.Author.Rules.{rules}
+use lib.IntN.{pos}
+use lib.ListN.{get_or, drop}
 use Rattle.line.proofs.Sets.{sets_out}
 use mir.Facts.{to_z-of_z}
 use mir.Syntax.{w16}
@@ -17,24 +17,9 @@ loop-k-init c = (omega arith, refl, refl, refl)
 pub returns-then-out-at : goal.returns-then-out-at
 returns-then-out-at c = sym (sets_out (number_bytes (drop c.loop-k.k c.args.numbers.now)) c.loop-k.out c.loop-k.at c.if-out-at.true) ∙ c.loop-k.invariant.3
 
-pub offset_bounds-numbers-k : goal.offset_bounds-numbers-k
-offset_bounds-numbers-k c = omega arith
-
-pub bounds-numbers-k : goal.bounds-numbers-k
-bounds-numbers-k c = omega arith
-
-pub overflow_add-k : goal.overflow_add-k
-overflow_add-k c = omega arith
-
-pub overflow_add-at : goal.overflow_add-at
-overflow_add-at c = omega arith
-
-pub loop-k-smaller : goal.loop-k-smaller
-loop-k-smaller c = omega arith
-
 pub loop-k-preserved : goal.loop-k-preserved
 loop-k-preserved c =
-    (omega arith, omega arith, search rules, numbers-step c.loop-k.out _ c.args.numbers.now c.loop-k.at c.loop-k.k _ (omega arith) (c.pattern_of.ensures.0 ∙ ap pattern (to_z-of_z (sfits_of {w = w16} c.pattern_of-arg-1.given))) c.put16.ensures ∙ c.loop-k.invariant.3)
+    (omega arith, omega arith, search rules, numbers-step c.loop-k.out _ c.args.numbers.now c.loop-k.at c.loop-k.k _ (omega arith) (c.pattern_of.ensures.0 ∙ ap pattern (to_z-of_z {w = w16} {z = get_or c.args.numbers.now c.loop-k.k (pos 0)} (search rules))) c.put16.ensures ∙ c.loop-k.invariant.3)
 
 pub returns : goal.returns
 returns c = numbers_end c.loop-k.out c.args.numbers.now c.loop-k.at c.loop-k.k c.loop-k-test.false ∙ c.loop-k.invariant.3

@@ -1,4 +1,3 @@
-use Prim.Native.Nat.{◌-◌}
 use native.Mathlib.Omega.{arith}
 use Rattle.capture.proofs.SkipLaws.{skip_start, skip_none, skip_step, skip_all}
 use Rattle.capture.proofs.skip_events.Goals as goal

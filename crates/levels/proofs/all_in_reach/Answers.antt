@@ -1,4 +1,3 @@
-use Prim.Native.Nat.{◌-◌}
 use mathlib.Core.Path.{refl}
 use lib.Ieee.{nan}
 use borrow.Author.Rules.{rules}

@@ -3,9 +3,6 @@ use lib.Dec.{T}
 use Rattle.levels.specs.Levels.{is_finite}
 use Rattle.levels.proofs.FieldLaws.{number, no_number, finite_law}
 use borrow.Author.Rules.{rules}
-use Rattle.levels.proofs.is_finite.Reads as reads
-use Rattle.levels.proofs.is_finite.Lts as lts
-use Rattle.levels.proofs.exponent.Reads as exponent-reads
 use Rattle.levels.proofs.is_finite.Goals as goal
 
 -- src/lib.rt:35:9

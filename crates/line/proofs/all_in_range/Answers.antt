@@ -2,7 +2,6 @@ use mir.Facts.{to_z-of_z}
 use mir.Syntax.{w16}
 use borrow.Author.Rules.{rules, sfits_of}
 use mathlib.Core.Path.{refl}
-use Prim.Native.Nat.{◌-◌}
 use lib.IntN.{pos}
 use Rattle.line.specs.Point.{coordinate_in}
 use Rattle.line.proofs.TableLaws.{every-step, every_end}

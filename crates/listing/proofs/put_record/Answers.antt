@@ -1,5 +1,3 @@
-use mathlib.Core.List.{[], ◌∷◌}
-use types.Run.{miss}
 use mathlib.Core.Path.{sym, ◌∙◌}
 use Rattle.listing.proofs.Lines.{points_free, went_points, is_gap, went_lost}
 use Rattle.listing.proofs.put_record.Goals as goal

@@ -1,5 +1,4 @@
 use Rattle.octets.proofs.Loops.{zeros-step, zeros_end}
-use Prim.Native.Nat.{◌-◌}
 use mathlib.Core.Path.{refl}
 use native.Mathlib.Omega.{arith}
 use Rattle.octets.proofs.zero_from.Goals as goal

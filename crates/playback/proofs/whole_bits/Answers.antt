@@ -4,9 +4,6 @@ use native.Mathlib.Omega.{arith}
 use Rattle.line.proofs.ByMode.{width_range}
 use Rattle.playback.proofs.BlockLaws.{groups_in}
 use borrow.Author.Rules.{rules}
-use Rattle.playback.proofs.whole_bits.Reads as reads
-use Rattle.playback.proofs.whole_bits.Lts as lts
-use Rattle.line.proofs.width_of.Reads as width-of-reads
 use Rattle.playback.proofs.whole_bits.Goals as goal
 
 -- src/lib.rt:49:13

@@ -1,4 +1,3 @@
-use Prim.Native.Nat.{◌-◌}
 use lib.Ieee.{nan}
 use Rattle.line.proofs.TableLaws.{every-placed}
 use Rattle.levels.specs.Levels.{in_reach}

@@ -1,7 +1,5 @@
 use mathlib.Core.Path.{refl}
 use borrow.Author.Tests.{eq-eqb, ne_eqb}
-use Rattle.scrambler.proofs.count_after.Reads as reads
-use Rattle.scrambler.proofs.count_after.Lts as lts
 use Rattle.scrambler.proofs.count_after.Goals as goal
 
 pub returns-then-zeros-eq0 : goal.returns-then-zeros-eq0

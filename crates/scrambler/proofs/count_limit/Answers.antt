@@ -1,7 +1,5 @@
 use mathlib.Core.Path.{refl}
 use borrow.Author.Tests.{le-leb, lt-leb}
-use Rattle.scrambler.proofs.count_limit.Reads as reads
-use Rattle.scrambler.proofs.count_limit.Lts as lts
 use Rattle.scrambler.proofs.count_limit.Goals as goal
 
 pub returns-then-held-lt12 : goal.returns-then-held-lt12

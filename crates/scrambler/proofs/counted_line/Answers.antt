@@ -3,13 +3,6 @@ use mathlib.Core.Path.{refl, ap, ◌∙◌}
 use Rattle.scrambler.specs.Register.{register}
 use Rattle.scrambler.specs.Group.{scrambled}
 use Rattle.scrambler.proofs.GroupLaws.{small_column, mixed_column, scramble_law}
-use Rattle.scrambler.proofs.counted_line.Reads as reads
-use Rattle.scrambler.proofs.counted_line.Lts as lts
-use Rattle.line.proofs.capacity_of.Reads as capacity-of-reads
-use Rattle.line.proofs.column_of.Reads as column-of-reads
-use Rattle.scrambler.proofs.guard_of.Reads as guard-of-reads
-use Rattle.scrambler.proofs.mixed.Reads as mixed-reads
-use Rattle.scrambler.proofs.push_counted.Reads as push-counted-reads
 use Rattle.scrambler.proofs.counted_line.Goals as goal
 
 pub mixed-all-requires : goal.mixed-all-requires

@@ -3,10 +3,6 @@ use mathlib.Core.Path.{ap, ◌∙◌}
 use Rattle.line.specs.Mode.{capacity}
 use Rattle.scrambler.specs.Register.{register}
 use Rattle.scrambler.specs.Group.{descrambled}
-use Rattle.scrambler.proofs.descramble_counted.Reads as reads
-use Rattle.scrambler.proofs.descramble_counted.Lts as lts
-use Rattle.scrambler.proofs.counted_bits.Reads as counted-bits-reads
-use Rattle.scrambler.proofs.guard_mode.Reads as guard-mode-reads
 use Rattle.scrambler.proofs.descramble_counted.Goals as goal
 
 pub returns : goal.returns

@@ -1,8 +1,6 @@
 use mathlib.Core.Path.{refl}
 use borrow.Author.Tests.{lt-ltb, le-ltb}
 use native.Mathlib.Omega.{arith}
-use Rattle.scrambler.proofs.first_count.Reads as reads
-use Rattle.scrambler.proofs.first_count.Lts as lts
 use Rattle.scrambler.proofs.first_count.Goals as goal
 
 pub returns-then-unsettled-gt0 : goal.returns-then-unsettled-gt0

@@ -5,16 +5,6 @@ use lib.Pow.{pow_pos}
 use native.Mathlib.Omega.{arith}
 use Rattle.line.proofs.ByMode.{width_range, guarded-width}
 use Rattle.scrambler.proofs.GroupLaws.{small_column, width-column, guard_law}
-use Rattle.scrambler.proofs.guard.Reads as reads
-use Rattle.scrambler.proofs.guard.Lts as lts
-use Rattle.line.proofs.column_of.Reads as column-of-reads
-use Rattle.line.proofs.width_of.Reads as width-of-reads
-use Rattle.scrambler.proofs.differing.Reads as differing-reads
-use Rattle.scrambler.proofs.first_count.Reads as first-count-reads
-use Rattle.scrambler.proofs.guard_over.Reads as guard-over-reads
-use Rattle.scrambler.proofs.low_bits.Reads as low-bits-reads
-use Rattle.scrambler.proofs.unsettled_bits.Reads as unsettled-bits-reads
-use Rattle.scrambler.proofs.without_first.Reads as without-first-reads
 use Rattle.scrambler.proofs.guard.Goals as goal
 
 pub differing-requires : goal.differing-requires

@@ -1,7 +1,5 @@
 use mathlib.Core.Path.{refl}
 use borrow.Author.Tests.{le-leb, lt-leb}
-use Rattle.scrambler.proofs.guard_mode.Reads as reads
-use Rattle.scrambler.proofs.guard_mode.Lts as lts
 use Rattle.scrambler.proofs.guard_mode.Goals as goal
 
 pub returns-then-mode-le5 : goal.returns-then-mode-le5

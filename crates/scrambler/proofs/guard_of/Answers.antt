@@ -1,10 +1,6 @@
 use mathlib.Core.Path.{sym, ◌∙◌}
 use native.Mathlib.Omega.{arith}
 use Rattle.scrambler.proofs.GroupLaws.{plain_guard}
-use Rattle.scrambler.proofs.guard_of.Reads as reads
-use Rattle.scrambler.proofs.guard_of.Lts as lts
-use Rattle.line.proofs.has_guard.Reads as has-guard-reads
-use Rattle.scrambler.proofs.guard.Reads as guard-reads
 use Rattle.scrambler.proofs.guard_of.Goals as goal
 
 pub guard-requires : goal.guard-requires

@@ -6,10 +6,6 @@ use native.Mathlib.Omega.{arith}
 use lib.Bits.{bit_or}
 use lib.Dec.{eqb}
 use Rattle.scrambler.proofs.GuardLaws.{place_small, place-fits, zeros_small, over_law}
-use Rattle.scrambler.proofs.guard_over.Reads as reads
-use Rattle.scrambler.proofs.guard_over.Lts as lts
-use Rattle.scrambler.proofs.count_after.Reads as count-after-reads
-use Rattle.scrambler.proofs.inverted_bit.Reads as inverted-bit-reads
 use Rattle.scrambler.proofs.guard_over.Goals as goal
 
 pub overflow_cast-place-3 : goal.overflow_cast-place-3

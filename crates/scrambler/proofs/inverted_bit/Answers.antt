@@ -1,8 +1,6 @@
 use mathlib.Core.Path.{refl}
 use borrow.Author.Tests.{lt-ltb, le-ltb}
 use native.Mathlib.Omega.{arith}
-use Rattle.scrambler.proofs.inverted_bit.Reads as reads
-use Rattle.scrambler.proofs.inverted_bit.Lts as lts
 use Rattle.scrambler.proofs.inverted_bit.Goals as goal
 
 pub returns-then-d-place : goal.returns-then-d-place

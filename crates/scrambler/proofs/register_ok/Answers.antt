@@ -2,11 +2,6 @@ use mathlib.Core.Path.{sym, ◌∙◌}
 use native.Mathlib.Omega.{arith}
 use Rattle.line.proofs.ByMode.{capacity_range}
 use Rattle.scrambler.proofs.RegisterLaws.{guarded_limit, ok_law, plain_ok_law, not_ok_law}
-use Rattle.scrambler.proofs.register_ok.Reads as reads
-use Rattle.scrambler.proofs.register_ok.Lts as lts
-use Rattle.line.proofs.capacity_of.Reads as capacity-of-reads
-use Rattle.line.proofs.has_guard.Reads as has-guard-reads
-use Rattle.scrambler.proofs.count_limit.Reads as count-limit-reads
 use Rattle.scrambler.proofs.register_ok.Goals as goal
 
 pub overflow_shr-result : goal.overflow_shr-result

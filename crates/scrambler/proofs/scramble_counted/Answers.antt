@@ -3,10 +3,6 @@ use mathlib.Core.Path.{ap, ◌∙◌}
 use Rattle.line.specs.Mode.{capacity}
 use Rattle.scrambler.specs.Register.{register}
 use Rattle.scrambler.specs.Group.{scrambled}
-use Rattle.scrambler.proofs.scramble_counted.Reads as reads
-use Rattle.scrambler.proofs.scramble_counted.Lts as lts
-use Rattle.scrambler.proofs.counted_line.Reads as counted-line-reads
-use Rattle.scrambler.proofs.guard_mode.Reads as guard-mode-reads
 use Rattle.scrambler.proofs.scramble_counted.Goals as goal
 
 pub returns : goal.returns

@@ -1,5 +1,4 @@
 use mathlib.Core.Bool.{not}
-use Prim.Native.Nat.{◌-◌}
 use mathlib.Core.Path.{ap, refl}
 use borrow.Author.Rules.{rules}
 use Rattle.settled.specs.Run.{following}

@@ -4,7 +4,6 @@ use Prim.Native.Nat.{ℕ}
 use mathlib.Core.List.{List}
 use lib.ListN.{length}
 use Rattle.store.specs.Layout.{events_of}
-use Prim.Native.Nat.{◌-◌}
 use native.Mathlib.Omega.{arith}
 use Rattle.store.proofs.Readings.{counting-start, counting-step, counting_end, along_in}
 use Rattle.store.proofs.count_events.Goals as goal

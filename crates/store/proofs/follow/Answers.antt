@@ -1,4 +1,3 @@
-use Prim.Native.Nat.{◌-◌}
 use native.Mathlib.Omega.{arith}
 use Rattle.store.proofs.Going.{going_start, going_step, going_past, going_long, going_end}
 use Rattle.store.proofs.follow.Goals as goal

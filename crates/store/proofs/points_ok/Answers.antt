@@ -1,6 +1,5 @@
 use Rattle.store.proofs.PointRuns.{points-step, points_end}
 use native.Mathlib.Omega.{arith}
-use Prim.Native.Nat.{◌-◌}
 use mathlib.Core.Path.{refl}
 use Rattle.store.proofs.points_ok.Goals as goal
 

@@ -1,4 +1,3 @@
-use Prim.Native.Nat.{◌-◌}
 use native.Mathlib.Omega.{arith}
 use Rattle.summing.proofs.SumLaws.{counted_start, counted_step, counted_end}
 use Rattle.summing.proofs.origins_in.Goals as goal

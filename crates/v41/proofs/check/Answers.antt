@@ -1,8 +1,4 @@
 use Rattle.v41.proofs.Answers.{of_bits_lem, check_refused, check_whole, check_broken}
-use Rattle.v41.proofs.check.Reads as reads
-use Rattle.v41.proofs.check.Lts as lts
-use Rattle.v41.proofs.bits_fault.Reads as bits-fault-reads
-use Rattle.v41.proofs.divide.Reads as divide-reads
 use Rattle.v41.proofs.check.Goals as goal
 
 pub returns-then-fault-ne0-clause-value : goal.returns-then-fault-ne0-clause-value

@@ -1,12 +1,6 @@
-use Prim.Native.Nat.{◌-◌}
 use mathlib.Core.Path.{refl}
 use native.Mathlib.Omega.{arith}
 use Rattle.v41.proofs.Loops.{eight_part, eight_go, rest_part, rest_end}
-use Rattle.v41.proofs.divide.Reads as reads
-use Rattle.v41.proofs.divide.Lts as lts
-use Rattle.v41.proofs.divide_bits.Reads as divide-bits-reads
-use Rattle.v41.proofs.number_of.Reads as number-of-reads
-use Rattle.v41.proofs.shift_eight.Reads as shift-eight-reads
 use Rattle.v41.proofs.divide.Goals as goal
 
 pub loop-i-init : goal.loop-i-init

@@ -2,11 +2,6 @@ use Prim.Native.Nat.{◌-◌, ◌≤◌, ◌<◌}
 use mathlib.Core.Path.{◌≡◌}
 use lib.ListN.{length, drop}
 use Rattle.v41.specs.Register.{register}
-use Rattle.v41.proofs.divide.Reads as reads
-use Rattle.v41.proofs.divide.Lts as lts
-use Rattle.v41.proofs.divide_bits.Reads as divide-bits-reads
-use Rattle.v41.proofs.number_of.Reads as number-of-reads
-use Rattle.v41.proofs.shift_eight.Reads as shift-eight-reads
 use Rattle.v41.proofs.divide.Given as goal
 
 abbrev pub invariant-loop-i : goal.invariant-loop-i

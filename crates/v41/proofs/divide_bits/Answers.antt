@@ -1,11 +1,7 @@
-use Prim.Native.Nat.{◌-◌}
 use mathlib.Core.Path.{refl}
 use native.Mathlib.Omega.{arith}
 use borrow.Author.Rules.{rules}
 use Rattle.v41.proofs.Loops.{bit_at, register_go, register_end}
-use Rattle.v41.proofs.divide_bits.Reads as reads
-use Rattle.v41.proofs.divide_bits.Lts as lts
-use Rattle.v41.proofs.shift.Reads as shift-reads
 use Rattle.v41.proofs.divide_bits.Goals as goal
 
 pub loop-i-init : goal.loop-i-init

@@ -2,9 +2,6 @@ use Prim.Native.Nat.{◌-◌, ◌≤◌, ◌<◌}
 use mathlib.Core.Path.{◌≡◌}
 use lib.ListN.{length, drop}
 use Rattle.v41.specs.Register.{register}
-use Rattle.v41.proofs.divide_bits.Reads as reads
-use Rattle.v41.proofs.divide_bits.Lts as lts
-use Rattle.v41.proofs.shift.Reads as shift-reads
 use Rattle.v41.proofs.divide_bits.Given as goal
 
 abbrev pub invariant-loop-i : goal.invariant-loop-i

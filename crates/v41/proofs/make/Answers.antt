@@ -1,14 +1,5 @@
 use native.Mathlib.Omega.{arith}
 use Rattle.v41.proofs.Answers.{make_refused, given_bits, given_room, make_done}
-use Rattle.v41.proofs.make.Reads as reads
-use Rattle.v41.proofs.make.Lts as lts
-use Rattle.bits.proofs.put_bits.Reads as put-bits-reads
-use Rattle.line.proofs.need.Reads as need-reads
-use Rattle.line.proofs.or_next.Reads as or-next-reads
-use Rattle.octets.proofs.put_all.Reads as put-all-reads
-use Rattle.v41.proofs.bits_fault.Reads as bits-fault-reads
-use Rattle.v41.proofs.divide.Reads as divide-reads
-use Rattle.v41.proofs.shift_eight.Reads as shift-eight-reads
 use Rattle.v41.proofs.make.Goals as goal
 
 pub returns-then-fault-ne0-clause-value : goal.returns-then-fault-ne0-clause-value

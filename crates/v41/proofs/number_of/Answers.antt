@@ -1,9 +1,7 @@
-use Prim.Native.Nat.{ℕ, ◌-◌, ◌<◌}
+use Prim.Native.Nat.{ℕ, ◌<◌}
 use mathlib.Core.Path.{refl, subst, sym}
 use native.Mathlib.Omega.{arith}
 use Rattle.v41.proofs.Loops.{number_go, number_small, number_end}
-use Rattle.v41.proofs.number_of.Reads as reads
-use Rattle.v41.proofs.number_of.Lts as lts
 use Rattle.v41.proofs.number_of.Goals as goal
 
 pub loop-k-init : goal.loop-k-init

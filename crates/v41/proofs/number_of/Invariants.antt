@@ -2,8 +2,6 @@ use Prim.Native.Nat.{◌-◌, ◌≤◌}
 use mathlib.Core.Path.{◌≡◌}
 use lib.ListN.{length, take}
 use Rattle.scrambler.specs.Bits.{value}
-use Rattle.v41.proofs.number_of.Reads as reads
-use Rattle.v41.proofs.number_of.Lts as lts
 use Rattle.v41.proofs.number_of.Given as goal
 
 abbrev pub invariant-loop-k : goal.invariant-loop-k

@@ -1,8 +1,6 @@
 use Prim.Native.Nat.{ℕ, ◌<◌}
 use mathlib.Core.Path.{sym, subst}
 use Rattle.v41.proofs.RegisterLaws.{next_low, next-high, next_small}
-use Rattle.v41.proofs.shift.Reads as reads
-use Rattle.v41.proofs.shift.Lts as lts
 use Rattle.v41.proofs.shift.Goals as goal
 
 pub returns-then-t-lt65536 : goal.returns-then-t-lt65536

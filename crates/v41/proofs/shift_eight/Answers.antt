@@ -3,8 +3,6 @@ use native.Mathlib.Omega.{arith}
 use lib.Bits.{xor_lt}
 use Rattle.v41.specs.Register.{folded, next_eight}
 use Rattle.v41.proofs.EightLaws.{eight_law, eight_small}
-use Rattle.v41.proofs.shift_eight.Reads as reads
-use Rattle.v41.proofs.shift_eight.Lts as lts
 use Rattle.v41.proofs.shift_eight.Goals as goal
 
 pub overflow_mul-left : goal.overflow_mul-left

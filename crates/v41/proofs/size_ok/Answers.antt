@@ -1,6 +1,4 @@
 use Rattle.v41.proofs.Answers.{size_law}
-use Rattle.v41.proofs.size_ok.Reads as reads
-use Rattle.v41.proofs.size_ok.Lts as lts
 use Rattle.v41.proofs.size_ok.Goals as goal
 
 pub returns : goal.returns

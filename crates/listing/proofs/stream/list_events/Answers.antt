@@ -1,6 +1,3 @@
-use mathlib.Core.List.{[], ◌∷◌}
-use types.Run.{miss}
-use Prim.Native.Nat.{◌-◌}
 use borrow.Author.Rules.{rules}
 use Rattle.listing.proofs.Streams.{stream_start, stream_small, stream_short, stream_over, stream_less, stream_again, stream_end, stream_done}
 use Rattle.listing.proofs.stream.list_events.Goals as goal
