@@ -1,18 +1,17 @@
 -- The bits of what was read, behind those that were there. Assumes nothing.
 use Prim.Native.Nat.{ℕ, ◌+◌, ◌-◌, ◌≤◌, min}
-use mathlib.Core.Path.{◌≡◌, refl, sym, ap, ap₂, subst, ◌∙◌}
-use mathlib.Core.Bool.{Bool, true, false, not, cond}
-use mathlib.Core.List.{List, [], ◌++◌, append-nil}
+use mathlib.Core.Path.{◌≡◌, sym, ap, subst, ◌∙◌}
+use mathlib.Core.Bool.{not}
+use mathlib.Core.List.{List, ◌++◌, append-nil}
 use native.Mathlib.Omega.{arith}
 use borrow.Author.Tests.{leb-true}
 use borrow.Rule.Slice.PartMut.{put_mid, take_put, Post-is}
 use lib.Dec.{leb}
 use lib.ListN.{length, take, drop, length-take, length-drop, drop_of_length-le}
 use lib.Seq.{take_all, length-take-le, drop_at}
-use Rattle.line.specs.Refusal.{need, accepted}
 use Rattle.line.proofs.Tests.{by_test}
 use Rattle.bit_text.specs.declared.TextBits.{TextBits}
-use Rattle.bit_text.specs.BitText.{bits_in, whole, text_refusal, text_answer, text_bytes, bit_count, took_all}
+use Rattle.bit_text.specs.BitText.{whole, text_refusal, text_answer, text_bytes, bit_count, took_all}
 use Rattle.bit_text.proofs.TextLaws.{fits}
 use Rattle.bit_input.specs.declared.BitsCame.{BitsCame}
 use Rattle.bit_input.specs.Input.{BitsBehind}

@@ -5,6 +5,7 @@
 ghost use Rattle.std.specs.Prelude.{◌≤◌, length};
 
 use bit_input::BitsCame;
+use std::io::{Eprint, Print, Read};
 use verdicts::Lines;
 
 // How far the input has been checked: bits left over at the front of the buffer, bits still to pass over, the place of the first bit left
@@ -27,7 +28,7 @@ struct Told {
     fine: bool,
 }
 
-fn tell(size: usize, place: u64, bits: &[u8], out: &mut [u8]) -> Told {
+fn tell(rt: &(impl Print + Eprint), size: usize, place: u64, bits: &[u8], out: &mut [u8]) -> Told {
     let lines = verdicts::check_blocks(size, place, bits, out);
     match lines {
         Lines::Refused(number) => Told {
@@ -36,7 +37,7 @@ fn tell(size: usize, place: u64, bits: &[u8], out: &mut [u8]) -> Told {
             fine: true,
         },
         Lines::Written(count, taken) => {
-            let is_written = console::emit_first(out, count);
+            let is_written = console::emit_first(rt, out, count);
             Told {
                 bits: taken,
                 number: 0,
@@ -47,12 +48,19 @@ fn tell(size: usize, place: u64, bits: &[u8], out: &mut [u8]) -> Told {
 }
 
 // The blocks among the first m bits; those left over are carried to the front.
-fn check_taken(c: Checking, size: usize, bits: &mut [u8], m: usize, out: &mut [u8]) -> Checking
+fn check_taken(
+    rt: &(impl Print + Eprint),
+    c: Checking,
+    size: usize,
+    bits: &mut [u8],
+    m: usize,
+    out: &mut [u8],
+) -> Checking
     requires { m ≤ length bits.old }
 {
     let passed = console::lesser(m, console::length_of(c.skip));
     let place = std::num::wrapping_add_u64(c.place, passed as u64);
-    let told = tell(size, place, &bits[passed..m], out);
+    let told = tell(rt, size, place, &bits[passed..m], out);
     let taken = console::lesser(told.bits, m - passed);
     let left = console::carry(bits, passed + taken, m);
     Checking {
@@ -66,10 +74,10 @@ fn check_taken(c: Checking, size: usize, bits: &mut [u8], m: usize, out: &mut [u
 }
 
 // What the input's end is to the checking, unless that has ended already: 5 for a character that is no bit.
-fn with_end(c: Checking, came: BitsCame) -> Checking {
+fn with_end(rt: &impl Eprint, c: Checking, came: BitsCame) -> Checking {
     let mut next = c;
-    if came.failed {
-        console::say_failed();
+    if let Some(error) = &came.failure {
+        console::say_failed(rt, error);
         next.goes_on = false;
         next.fine = false;
     }
@@ -81,51 +89,61 @@ fn with_end(c: Checking, came: BitsCame) -> Checking {
 }
 
 // One read, and the blocks of the bits in what came.
-fn check_some(
+fn check_some<R: Read>(
+    rt: &(impl Print + Eprint),
     c: Checking,
     size: usize,
+    input: &mut R,
     text: &mut [u8],
     bits: &mut [u8],
     out: &mut [u8],
 ) -> Checking {
-    let came = bit_input::read_bits(text, bits, c.have);
-    let next = check_taken(c, size, bits, came.count, out);
-    with_end(next, came)
+    let came = bit_input::read_bits(input, text, bits, c.have);
+    let next = check_taken(rt, c, size, bits, came.count, out);
+    with_end(rt, next, came)
 }
 
 // The line of a refusal, and on standard error the number with how many bits came before it; the size is refused before any.
-fn put_refused(number: u8, bits: u64) {
-    let fine = console::emit(b"refused ")
-        && console::emit_number(number as u64)
-        && console::emit(b"\n");
+fn put_refused(rt: &(impl Print + Eprint), number: u8, bits: u64) {
+    let fine = console::emit(rt, b"refused ")
+        && console::emit_number(rt, number as u64)
+        && console::emit(rt, b"\n");
     if fine {
         if number == 19 {
-            console::say_refused(19, 0);
+            console::say_refused(rt, 19, 0);
         } else {
-            console::say_refused(number, bits);
+            console::say_refused(rt, number, bits);
         }
     }
 }
 
 // The last line: bits that are no whole block, or the number that ended it.
-fn put_end(c: Checking) {
+fn put_end(rt: &(impl Print + Eprint), c: Checking) {
     let left = c.have as u64;
     if c.number != 0 {
-        put_refused(c.number, std::num::wrapping_add_u64(c.place, left));
+        put_refused(rt, c.number, std::num::wrapping_add_u64(c.place, left));
         return;
     }
     if left != 0 {
-        let fine = console::emit_number(c.place)
-            && console::emit(b" short ")
-            && console::emit_number(left);
+        let fine = console::emit_number(rt, c.place)
+            && console::emit(rt, b" short ")
+            && console::emit_number(rt, left);
         if fine {
-            console::emit(b"\n");
+            console::emit(rt, b"\n");
         }
     }
 }
 
-// All of the input. A proved loop has to end: it counts down from a number that no run uses up.
-fn check_all(size: usize, skip: u64, text: &mut [u8], bits: &mut [u8], out: &mut [u8]) -> Checking {
+// All of the input. A proved loop has to end: it counts up to a number that no run comes to.
+fn check_all<R: Read>(
+    rt: &(impl Print + Eprint),
+    size: usize,
+    skip: u64,
+    input: &mut R,
+    text: &mut [u8],
+    bits: &mut [u8],
+    out: &mut [u8],
+) -> Checking {
     let mut c = Checking {
         have: 0,
         skip,
@@ -134,27 +152,31 @@ fn check_all(size: usize, skip: u64, text: &mut [u8], bits: &mut [u8], out: &mut
         goes_on: true,
         fine: true,
     };
-    let mut turns = u64::MAX;
-    while turns > 0 && c.goes_on {
-        c = check_some(c, size, text, bits, out);
-        turns -= 1;
+    for _ in 0..u64::MAX {
+        if !c.goes_on {
+            break;
+        }
+        c = check_some(rt, c, size, input, text, bits, out);
     }
     c
 }
 
-fn main() {
+fn main(rt: HostRuntime) {
     let mut text = [0u8; 4096];
     let mut bits = [0u8; 8192];
     let mut out = [0u8; 4096];
-    let size = console::length_of(console::number_argument(1));
+    let size = console::length_of(console::number_argument(&rt, 1));
+    let skip = console::number_argument(&rt, 2);
     let c = check_all(
+        &rt,
         size,
-        console::number_argument(2),
+        skip,
+        &mut rt.stdin(),
         &mut text,
         &mut bits,
         &mut out,
     );
     if c.fine {
-        put_end(c);
+        put_end(&rt, c);
     }
 }

@@ -1,7 +1,7 @@
 -- What is said of bytes read from standard input. No contract can say which bytes come; these say where they stand, that those before them
 -- stay, and that what was not used yet is carried to the front.
 use Rattle.std.specs.Prelude.{ℕ, ◌-◌, ◌≤◌, ◌≡◌, List, length, take, drop}
-use Rattle.io.specs.Counts.{IsPrefixLen}
+use Rattle.std.specs.Counts.{IsPrefixLen}
 use Rattle.console.specs.declared.Came.{Came}
 
 -- after a read behind the first `have` bytes: those are as they were, and so many are at the front as are told, no fewer than before

@@ -6,82 +6,95 @@ ghost use Rattle.std.specs.Prelude.{◌≡◌, ◌+◌, ◌*◌, ◌<◌, ◌≤
 ghost use Rattle.console.specs.Reading.{Behind, Carried};
 ghost use Rattle.console.specs.Words.{most, number};
 
+use std::io;
+use std::io::{Cursor, Eprint, Print, Read, Write};
+use std::rt::Env;
+
 // ---- reading
 
-// What a read behind the first bytes of a buffer gives: whether it failed, whether the input has ended, and how many bytes stand at
+// What a read behind the first bytes of a buffer gives: why it failed, if it did, whether the input has ended, and how many bytes stand at
 // the front of the buffer now.
 #[derive(Drop)]
 pub struct Came {
-    pub failed: bool,
+    pub failure: Option<io::Error>,
     pub ended: bool,
     pub count: usize,
 }
 
 // One read into `buf` behind its first `have` bytes; where there is no room behind them, none.
-pub fn read_more(buf: &mut [u8], have: usize) -> Came
+pub fn read_more<R: Read>(input: &mut R, buf: &mut [u8], have: usize) -> Came
     ensures { Behind have buf.old buf.new result }
 {
     if buf.len() <= have {
         return Came {
-            failed: false,
+            failure: None,
             ended: false,
             count: buf.len(),
         };
     }
-    let got = libc::read(libc::STDIN_FILENO, &mut buf[have..]);
-    let n = io::count(got, &buf[have..]);
-    Came {
-        failed: got < 0,
-        ended: got == 0,
-        count: have + n,
+    match input.read(&mut buf[have..]) {
+        Ok(n) => Came {
+            failure: None,
+            ended: n == 0,
+            count: have + n,
+        },
+        Err(error) => Came {
+            failure: Some(error),
+            ended: false,
+            count: have,
+        },
     }
 }
 
 // Reads until `buf` is full, the input ends or a read fails.
-pub fn read_whole(buf: &mut [u8]) -> Came
+pub fn read_whole<R: Read>(input: &mut R, buf: &mut [u8]) -> Came
     ensures { Behind 0 buf.old buf.new result }
 {
     let mut have = 0;
     while have < buf.len() {
-        let came = read_more(buf, have);
+        let came = read_more(input, buf, have);
         if came.count <= have {
             return came;
         }
         have = came.count;
     }
     Came {
-        failed: false,
+        failure: None,
         ended: false,
         count: have,
     }
 }
 
 // Reads once more, and answers whether to go on.
-fn skip_some() -> bool {
-    let mut buf = io::large_buffer();
-    0 < libc::read(libc::STDIN_FILENO, &mut buf)
+fn skip_some<R: Read>(input: &mut R) -> bool {
+    let mut buf = [0u8; 65536];
+    match input.read(&mut buf) {
+        Ok(n) => 0 < n,
+        Err(_) => false,
+    }
 }
 
 // Reads the rest of the input, which is not kept, so that whoever writes it is not cut off. A proved loop has to end, and nothing says that
-// the input does: the loop counts down from a number that no run uses up.
-pub fn skip_rest() {
-    let mut turns = u64::MAX;
-    while turns > 0 && skip_some() {
-        turns -= 1;
+// the input does: the loop counts up to a number that no run comes to.
+pub fn skip_rest<R: Read>(input: &mut R) {
+    for _ in 0..u64::MAX {
+        if !skip_some(input) {
+            return;
+        }
     }
 }
 
 // Reads what `buf` holds, and passes over the rest of the input; says so where reading fails.
-pub fn read_kept(buf: &mut [u8]) -> Came
+pub fn read_kept<R: Read>(rt: &impl Eprint, input: &mut R, buf: &mut [u8]) -> Came
     ensures { Behind 0 buf.old buf.new result }
 {
-    let came = read_whole(buf);
-    if came.failed {
-        say_failed();
+    let came = read_whole(input, buf);
+    if let Some(error) = &came.failure {
+        say_failed(rt, error);
         return came;
     }
     if came.count == buf.len() {
-        skip_rest();
+        skip_rest(input);
     }
     came
 }
@@ -145,18 +158,17 @@ pub fn number_of(word: &[u8]) -> u64
 }
 
 // Argument i as a number; one that is missing or longer than 32 characters counts as the greatest.
-pub fn number_argument(i: usize) -> u64 {
+pub fn number_argument(rt: &impl Env, i: usize) -> u64 {
     let mut word = [0u8; 32];
-    let length = os::arg(i, &mut word);
-    if os::errno() != 0 {
-        return u64::MAX;
+    match rt.arg(i, &mut word) {
+        Ok(length) => number_of(&word[..length]),
+        Err(_) => u64::MAX,
     }
-    number_of(&word[..length])
 }
 
 // Argument i as a number of at most 255; a greater one counts as 255, which is no mode and no role.
-pub fn small_argument(i: usize) -> u8 {
-    let n = number_argument(i);
+pub fn small_argument(rt: &impl Env, i: usize) -> u8 {
+    let n = number_argument(rt, i);
     if 255 < n {
         return 255;
     }
@@ -164,8 +176,8 @@ pub fn small_argument(i: usize) -> u8 {
 }
 
 // Argument i as a number of 32 bits; a greater one counts as the greatest.
-pub fn wide_argument(i: usize) -> u32 {
-    let n = number_argument(i);
+pub fn wide_argument(rt: &impl Env, i: usize) -> u32 {
+    let n = number_argument(rt, i);
     if 4294967295 < n {
         return 4294967295;
     }
@@ -181,42 +193,58 @@ pub fn length_of(n: u64) -> usize
 
 // ---- writing
 
-// Writes to standard output, and says so where that fails; whether to go on.
-pub fn emit(bytes: &[u8]) -> bool {
-    let is_written = io::write_all(libc::STDOUT_FILENO, bytes);
-    if !is_written {
-        os::fail(b"write");
+// Whether a write to standard output was done; says so where it failed.
+fn is_written(rt: &impl Eprint, written: io::Result<()>) -> bool {
+    match written {
+        Ok(()) => true,
+        Err(error) => {
+            say(rt, "write", &error);
+            false
+        }
     }
-    is_written
+}
+
+// Writes to standard output, and says so where that fails; whether to go on.
+pub fn emit(rt: &(impl Print + Eprint), bytes: &[u8]) -> bool {
+    is_written(rt, rt.write_all(bytes))
 }
 
 // Writes the first n bytes, or all where there are fewer, likewise.
-pub fn emit_first(bytes: &[u8], n: usize) -> bool {
+pub fn emit_first(rt: &(impl Print + Eprint), bytes: &[u8], n: usize) -> bool {
     if n < bytes.len() {
-        return emit(&bytes[..n]);
+        return emit(rt, &bytes[..n]);
     }
-    emit(bytes)
+    emit(rt, bytes)
 }
 
 // Writes a number in decimal to standard output, likewise.
-pub fn emit_number(n: u64) -> bool {
-    let is_written = io::print_decimal(libc::STDOUT_FILENO, n);
-    if !is_written {
-        os::fail(b"write");
-    }
-    is_written
+pub fn emit_number(rt: &(impl Print + Eprint), n: u64) -> bool {
+    is_written(rt, print!(rt; "{n}"))
 }
 
 // Says that reading failed.
-pub fn say_failed() {
-    os::fail(b"read");
+pub fn say_failed(rt: &impl Eprint, error: &io::Error) {
+    say(rt, "read", error);
 }
 
 // Says that a call was refused with a number, after so many events or bits.
-pub fn say_refused(number: u8, after: u64) {
-    io::write_all(libc::STDERR_FILENO, b"refused ");
-    io::print_decimal(libc::STDERR_FILENO, number as u64);
-    io::write_all(libc::STDERR_FILENO, b" after ");
-    io::print_decimal(libc::STDERR_FILENO, after);
-    io::write_all(libc::STDERR_FILENO, b"\n");
+pub fn say_refused(rt: &impl Eprint, number: u8, after: u64) {
+    unsaid(eprintln!(rt; "refused {number} after {after}"));
+}
+
+// Nobody is left to tell of a line that standard error did not take.
+fn unsaid(_said: io::Result<()>) {}
+
+// One line: what failed, and the system's words for why, without the number that std puts behind them.
+fn say(rt: &impl Eprint, what: &str, error: &io::Error) {
+    let mut words = Cursor::new([0u8; 320]);
+    unsaid(write!(words, "{error}"));
+    let n = lesser(length_of(words.position()), 320);
+    let bytes = words.into_inner();
+    let text = std::str::from_utf8(&bytes[..n]).unwrap_or("");
+    let why = match text.split_once(" (os error ") {
+        Some((front, _)) => front,
+        None => text,
+    };
+    unsaid(eprintln!(rt; "{what}: {why}"));
 }
