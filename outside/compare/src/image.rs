@@ -5,7 +5,7 @@ use outside::{image, object};
 
 const LIBRARY: &str = concat!(
     env!("CARGO_MANIFEST_DIR"),
-    "/../../target/staticlib/libkerambiu.a"
+    "/../../crates/kerambiu/out/libkerambiu.a"
 );
 
 /// Looks for the table in the library; whether it is not there.
