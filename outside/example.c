@@ -36,7 +36,7 @@ static void print_distance(void)
 
 static void print_refusal(unsigned refusal)
 {
-    printf("refused %u: %s\n", refusal, kerambiu_refusal_text(refusal));
+    printf("refused %u\n", refusal);
 }
 
 /* Prints an answer in mode 1, which has two bits in a point. */

@@ -88,6 +88,7 @@ pub fn width_of(mode: u8) -> u8
 }
 
 // The line bits that a register keeps.
+#[tactic(auto, using(crate::proofs::ByMode::kept_guarded, crate::proofs::ByMode::kept_short, crate::proofs::ByMode::kept_long))]
 pub fn capacity_of(mode: u8) -> u8
     ensures { result ≡ capacity mode }
 {

@@ -13,7 +13,7 @@ use Rattle.line.proofs.Tests.{by_test}
 use Rattle.line.proofs.Sets.{sets_then}
 use Rattle.scrambler.specs.Bits.{bits}
 use Rattle.scrambler.specs.Group.{marked}
-use Rattle.receiver.specs.Receiver.{reference, decoded, lost}
+use Rattle.receiver.specs.Receiver.{Answer, reference, decoded, lost}
 use Rattle.listing.specs.Text.{glyphs, line_glyphs, decimal, bits_are, blank, line_end, kind_text, line_text}
 use Rattle.listing.specs.Wrote.{Wrote, byte_answer}
 
@@ -98,3 +98,7 @@ module _ (w l b : ℕ) where
   pub byte_bits : (l ≡ 16 → ⊥) → (l ≡ 17 → ⊥) → decoded (bits w l) (marked (b / 16) (bits w (b % 16))) 0 ≡ byte_answer w l b
   unfolding byte_answer
   byte_bits h k = rw (ne_eqb l 16 h, ne_eqb l 17 k)
+
+-- a line written for one answer is that of another one, if they are the same
+pub put_as : (o o' : List ℕ) (at p place : ℕ) (a b : Answer) → Wrote o at (line_text place a) o' p → a ≡ b → Wrote o at (line_text place b) o' p
+put_as o o' at p place a b w e = wrote_as (ap (line_text place) e) w

@@ -140,6 +140,7 @@ fn put_lost(out: &mut [u8], at: usize, place: u32, n: u32) -> usize
 }
 
 // The line of a point from its two bytes in a block, with w bits in a point; the place behind it.
+#[tactic(auto, using(crate::proofs::Writes::put_as, crate::proofs::Writes::byte_reference, crate::proofs::Writes::byte_lost, crate::proofs::Writes::byte_bits))]
 fn put_point(out: &mut [u8], at: usize, place: u32, w: u8, line: u8, plain: u8) -> usize
     requires { (at ≤ 900000) × (w ≤ 4) }
     ensures { Wrote out.old at (line_text place (byte_answer w line plain)) out.new result × (result ≤ at + 30) }

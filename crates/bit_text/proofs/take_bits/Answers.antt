@@ -5,14 +5,10 @@ use Rattle.bit_text.proofs.Reading.{left-start, too_few, read_all, in_room, next
 use Rattle.bit_text.proofs.take_bits.Goals as goal
 use Rattle.bit_text.proofs.take_bits.Goals.{then-is_digit, else-is_digit+else-not-is_blank}
 
-pub returns-then-out-input-clause-value : goal.returns-then-out-input-clause-value
-returns-then-out-input-clause-value c = (too_few _ _ c.if-out-input.true).0
-
-pub returns-then-out-input-clause-out_after : goal.returns-then-out-input-clause-out_after
-returns-then-out-input-clause-out_after c = (too_few _ _ c.if-out-input.true).1.0
-
-pub returns-then-out-input-clause-text_told : goal.returns-then-out-input-clause-text_told
-returns-then-out-input-clause-text_told c = (too_few _ _ c.if-out-input.true).1.1
+pub returns-then-out-input : goal.returns-then-out-input
+returns-then-out-input c =
+    let answer = too_few _ _ c.if-out-input.true in
+    record { value = answer.0; out_after = answer.1.0; text_told = answer.1.1 }
 
 pub loop-i-init : goal.loop-i-init
 loop-i-init c = left-start _ _ c.if-out-input.false
@@ -29,14 +25,10 @@ overflow_add-n c = omega (arith, in_room _ _ _ _ _ c.loop-i.invariant _ c.loop-i
 pub shape_of-out-then-not-is_blank : goal.shape_of-out-then-not-is_blank
 shape_of-out-then-not-is_blank c = c.loop-i.invariant.same
 
-pub returns-then-not-is_blank-clause-value : goal.returns-then-not-is_blank-clause-value
-returns-then-not-is_blank-clause-value c = (ended _ _ _ _ _ c.loop-i.invariant _ c.loop-i-test.true c.is_digit.ensures _ c.if-is_digit.false c.is_blank.ensures c.if-not-is_blank.true).0
-
-pub returns-then-not-is_blank-clause-out_after : goal.returns-then-not-is_blank-clause-out_after
-returns-then-not-is_blank-clause-out_after c = (ended _ _ _ _ _ c.loop-i.invariant _ c.loop-i-test.true c.is_digit.ensures _ c.if-is_digit.false c.is_blank.ensures c.if-not-is_blank.true).1.0
-
-pub returns-then-not-is_blank-clause-text_told : goal.returns-then-not-is_blank-clause-text_told
-returns-then-not-is_blank-clause-text_told c = (ended _ _ _ _ _ c.loop-i.invariant _ c.loop-i-test.true c.is_digit.ensures _ c.if-is_digit.false c.is_blank.ensures c.if-not-is_blank.true).1.1
+pub returns-then-not-is_blank : goal.returns-then-not-is_blank
+returns-then-not-is_blank c =
+    let answer = ended _ _ _ _ _ c.loop-i.invariant _ c.loop-i-test.true c.is_digit.ensures _ c.if-is_digit.false c.is_blank.ensures c.if-not-is_blank.true in
+    record { value = answer.0; out_after = answer.1.0; text_told = answer.1.1 }
 
 pub loop-i-preserved : goal.loop-i-preserved
 loop-i-preserved c =
@@ -49,11 +41,7 @@ loop-i-preserved c =
 pub shape_of-out : goal.shape_of-out
 shape_of-out c = c.loop-i.invariant.same
 
-pub returns-clause-value : goal.returns-clause-value
-returns-clause-value c = (read_all _ _ _ _ _ c.loop-i.invariant c.loop-i-test.false).0
-
-pub returns-clause-out_after : goal.returns-clause-out_after
-returns-clause-out_after c = (read_all _ _ _ _ _ c.loop-i.invariant c.loop-i-test.false).1.0
-
-pub returns-clause-text_told : goal.returns-clause-text_told
-returns-clause-text_told c = (read_all _ _ _ _ _ c.loop-i.invariant c.loop-i-test.false).1.1
+pub returns : goal.returns
+returns c =
+    let answer = read_all _ _ _ _ _ c.loop-i.invariant c.loop-i-test.false in
+    record { value = answer.0; out_after = answer.1.0; text_told = answer.1.1 }

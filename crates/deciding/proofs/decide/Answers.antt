@@ -5,23 +5,18 @@ use Rattle.deciding.proofs.RingLaws.{state_column}
 use Rattle.deciding.proofs.DecideLaws.{told_origin, told_state}
 use Rattle.deciding.proofs.decide.Goals as goal
 
-pub returns-then-is_origin-clause-value : goal.returns-then-is_origin-clause-value
-returns-then-is_origin-clause-value c = (told_origin c.args.mode c.args.re c.args.im (sym (rw (to_z-of_z c.ranges.re, to_z-of_z c.ranges.im) at c.is_origin.ensures) ∙ c.if-is_origin.true)).0
-
-pub returns-then-is_origin-clause-told : goal.returns-then-is_origin-clause-told
-returns-then-is_origin-clause-told c = (told_origin c.args.mode c.args.re c.args.im (sym (rw (to_z-of_z c.ranges.re, to_z-of_z c.ranges.im) at c.is_origin.ensures) ∙ c.if-is_origin.true)).1
+pub returns-then-is_origin : goal.returns-then-is_origin
+returns-then-is_origin c =
+    let answer = told_origin c.args.mode c.args.re c.args.im (sym (rw (to_z-of_z c.ranges.re, to_z-of_z c.ranges.im) at c.is_origin.ensures) ∙ c.if-is_origin.true) in
+    record { value = answer.0; told = answer.1 }
 
 pub state_of-s-requires : goal.state_of-s-requires
 state_of-s-requires c = rw c.column_of.ensures (column-most c.args.mode)
 
-pub returns-clause-value : goal.returns-clause-value
-returns-clause-value c = (told_state c.args.mode c.args.re c.args.im _ _
+pub returns : goal.returns
+returns c =
+    let answer = told_state c.args.mode c.args.re c.args.im _ _
     (rw (to_z-of_z c.ranges.re, to_z-of_z c.ranges.im) at c.state_of-s.ensures ∙ state_column c.args.mode _ c.column_of.ensures c.args.re c.args.im)
     (rw (to_z-of_z c.ranges.re, to_z-of_z c.ranges.im) at c.distance.ensures)
-    (sym (rw (to_z-of_z c.ranges.re, to_z-of_z c.ranges.im) at c.is_origin.ensures) ∙ c.if-is_origin.false)).0
-
-pub returns-clause-told : goal.returns-clause-told
-returns-clause-told c = (told_state c.args.mode c.args.re c.args.im _ _
-    (rw (to_z-of_z c.ranges.re, to_z-of_z c.ranges.im) at c.state_of-s.ensures ∙ state_column c.args.mode _ c.column_of.ensures c.args.re c.args.im)
-    (rw (to_z-of_z c.ranges.re, to_z-of_z c.ranges.im) at c.distance.ensures)
-    (sym (rw (to_z-of_z c.ranges.re, to_z-of_z c.ranges.im) at c.is_origin.ensures) ∙ c.if-is_origin.false)).1
+    (sym (rw (to_z-of_z c.ranges.re, to_z-of_z c.ranges.im) at c.is_origin.ensures) ∙ c.if-is_origin.false) in
+    record { value = answer.0; told = answer.1 }

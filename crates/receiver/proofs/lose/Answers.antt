@@ -6,4 +6,4 @@ pub returns-then-place-n : goal.returns-then-place-n
 returns-then-place-n c = search room_none
 
 pub returns : goal.returns
-returns c = lost_law _ _ _ _ (search rules) c.if-place-n.false c.fresh_register-line.ensures c.moved-next.ensures
+returns c = lost_law _ _ _ _ (search rules) c.if-place-n.false (search rules) c.moved-next.ensures
