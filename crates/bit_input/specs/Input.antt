@@ -1,6 +1,7 @@
 -- Bits read from standard input as characters. No contract can say which characters come; this one says what is made of those that stand in
 -- the text buffer after the read.
-use Rattle.std.specs.Prelude.{ℕ, ◌+◌, ◌-◌, ◌≤◌, min, ◌≡◌, not, List, length, take, drop}
+use Rattle.std.specs.Prelude.{ℕ, ◌+◌, ◌-◌, ◌≤◌, min, ◌≡◌, not, List, Result, length, take, drop}
+use Rattle.line.specs.declared.refusal.Refusal.{Refusal}
 use Rattle.bit_text.specs.declared.TextBits.{TextBits}
 use Rattle.bit_text.specs.BitText.{text_answer, text_bytes, bit_count, took_all}
 use Rattle.bit_input.specs.declared.BitsCame.{BitsCame}
@@ -10,7 +11,7 @@ abbrev pub behind : ℕ → List ℕ → ℕ
 behind have bits = min have (length bits)
 
 -- what the characters that came say, in the bytes behind those bits
-abbrev pub told : ℕ → List ℕ → List ℕ → TextBits
+abbrev pub told : ℕ → List ℕ → List ℕ → Result TextBits Refusal
 told have text bits = text_answer text (length bits - behind have bits)
 
 -- of the characters that stand at the front of the text buffer after the read: their bits stand behind the first `have`, which stay, and

@@ -6,26 +6,16 @@ use mathlib.Core.List.{List, [], ◌∷◌}
 use native.Mathlib.Numerals.{add-one}
 use native.Mathlib.Omega.{arith}
 use borrow.Author.Tests.{le-leb, lt-leb}
-use lib.Dec.{eqb, leb}
+use lib.Dec.{leb}
 use lib.ListN.{length, get_or, set, drop, drop_of_length-le, length-set}
 use lib.Seq.{sets, drop-cons}
 use Rattle.line.proofs.Tests.{cond-true, cond-false}
+use Rattle.std.specs.Prelude.{Result, Ok, Err}
+use Rattle.line.specs.declared.refusal.Refusal.{Refusal}
+use Rattle.line.specs.declared.refusal.Refusal.TheVariants.{Lent}
+use Rattle.line.specs.Refusal.{named}
 use Rattle.bit_text.specs.declared.TextBits.{TextBits}
-use Rattle.bit_text.specs.declared.TextBits.TheVariants.{Refused, All, UpTo}
 use Rattle.bit_text.specs.BitText.{is_blank, is_digit, bits_in, whole, text_refusal, text_answer, text_bytes, TextTold}
-
-or_none : (b : Bool) → b ≡ (b || false)
-or_none true = refl
-or_none false = refl
-
--- `is_blank` and `is_digit`
-pub blank_law : (c : ℕ) → (eqb c 32 || (eqb c 9 || (eqb c 10 || eqb c 13))) ≡ is_blank c
-unfolding is_blank
-blank_law c = ap (λ (b : Bool). eqb c 32 || (eqb c 9 || (eqb c 10 || b))) (or_none (eqb c 13))
-
-pub digit_law : (c : ℕ) → (eqb c 48 || eqb c 49) ≡ is_digit c
-unfolding is_digit
-digit_law c = ap (λ (b : Bool). eqb c 48 || b) (or_none (eqb c 49))
 
 -- THE LOOP: what is left to do is what was left to do
 
@@ -46,36 +36,38 @@ drop_more : (l : List ℕ) (i : ℕ) → i < length l → drop i l ≡ get_or l 
 drop_more l i h = drop-cons l i 0 h ∙ ap (λ (k : ℕ). get_or l i 0 ∷ drop k l) (sym (add-one i))
 
 -- what the call gives, by what the tests found
-abbrev Ends : List ℕ → List ℕ → TextBits → List ℕ → Type 0
+abbrev Ends : List ℕ → List ℕ → Result TextBits Refusal → List ℕ → Type 0
 Ends text out₀ r out = (r ≡ text_answer text (length out₀)) × ((out ≡ text_bytes text out₀) × TextTold text (length out₀) r)
 
-pub too_few : (text out : List ℕ) → length out < length text → Ends text out (Refused 7) out
-unfolding text_refusal text_answer text_bytes
+pub too_few : (text out : List ℕ) → length out < length text → Ends text out (Err Lent) out
+unfolding named text_refusal text_answer text_bytes
 too_few text out h =
     let f : leb (length text) (length out) ≡ false = lt-leb (length text) (length out) h in
     (rw f refl, (rw f refl, record { number_is = rw f refl; count_is = rw f refl; all_is = rw f refl }))
 
--- what each case says
-told : (text : List ℕ) (lent : ℕ) (r : TextBits) → leb (length text) lent ≡ true → (w : Bool) → w ≡ whole text → r ≡ cond w (All (length (bits_in text))) (UpTo (length (bits_in text)))
-    → TextTold text lent r
+-- so many bits, and whether they are of the whole text
+abbrev given : ℕ → Bool → Result TextBits Refusal
+given n w = Ok (record { count = n; whole = w })
+
+-- what it says
+told : (text : List ℕ) (lent : ℕ) (r : Result TextBits Refusal) → leb (length text) lent ≡ true → r ≡ given (length (bits_in text)) (whole text) → TextTold text lent r
 unfolding text_refusal
-told text lent r f true p q = rw q (record { number_is = rw f refl; count_is = rw f refl; all_is = rw f p })
-told text lent r f false p q = rw q (record { number_is = rw f refl; count_is = rw f refl; all_is = rw f p })
+told text lent r f q = rw q (record { number_is = rw f refl; count_is = rw f refl; all_is = rw f refl })
 
 module _ (text out₀ out : List ℕ) (n i : ℕ) (l : Left text out₀ out n i) where
   -- nothing is left to write
-  ends : (w : Bool) (r : TextBits) → w ≡ whole text → r ≡ cond w (All n) (UpTo n) → bits_in (drop i text) ≡ [] → Ends text out₀ r out
+  ends : (w : Bool) → w ≡ whole text → bits_in (drop i text) ≡ [] → Ends text out₀ (given n w) out
   unfolding text_refusal text_answer text_bytes
-  ends w r p q e =
+  ends w p e =
       let count : n ≡ length (bits_in text) = omega (arith, l.counted, ap length e) in
-      let counted : r ≡ cond w (All (length (bits_in text))) (UpTo (length (bits_in text))) = q ∙ ap (λ (k : ℕ). cond w (All k) (UpTo k)) count in
+      let counted : given n w ≡ given (length (bits_in text)) (whole text) = ap₂ given count p in
       let free : leb (length text) (length out₀) ≡ true = le-leb (length text) (length out₀) l.room in
-      (rw (free, ← p) counted, (rw free (sym (ap (sets out n) e) ∙ l.written), told text (length out₀) r free w p counted))
+      (rw free counted, (rw free (sym (ap (sets out n) e) ∙ l.written), told text (length out₀) (given n w) free counted))
 
-  pub read_all : length text ≤ i → Ends text out₀ (All n) out
+  pub read_all : length text ≤ i → Ends text out₀ (given n true) out
   read_all h =
       let z : drop i text ≡ [] = drop_of_length-le text h in
-      ends true (All n) (sym (ap whole z) ∙ l.so_far) refl (ap bits_in z)
+      ends true (sym (ap whole z) ∙ l.so_far) (ap bits_in z)
 
   -- the next character
   module _ (d : Bool) (h : i < length text) (ed : d ≡ is_digit (get_or text i 0)) where
@@ -126,5 +118,5 @@ module _ (text out₀ out : List ℕ) (n i : ℕ) (l : Left text out₀ out n i)
             so_far = sym (none ∙ ap (λ (b : Bool). b && whole (drop (i + 1) text)) t) ∙ l.so_far;
           })
 
-      pub ended : s ≡ false → Ends text out₀ (UpTo n) out
-      ended t = ends false (UpTo n) (sym (none ∙ ap (λ (b : Bool). b && whole (drop (i + 1) text)) t) ∙ l.so_far) refl (not_digit ∙ cond-false s _ _ t)
+      pub ended : s ≡ false → Ends text out₀ (given n false) out
+      ended t = ends false (sym (none ∙ ap (λ (b : Bool). b && whole (drop (i + 1) text)) t) ∙ l.so_far) (not_digit ∙ cond-false s _ _ t)

@@ -1,11 +1,11 @@
 -- The front's commands `send` and `check`: "bits as the characters 0 and 1, blanks and line ends skipped". What a text of bytes says, and what
 -- `take_bits` refuses, answers and writes.
-use Rattle.std.specs.Prelude.{ℕ, ◌-◌, ◌≡◌, Bool, true, false, ◌||◌, cond, List, [], ◌∷◌, leb, length}
+use Rattle.std.specs.Prelude.{ℕ, ◌-◌, ◌≡◌, Bool, false, ◌||◌, cond, List, [], ◌∷◌, Result, Ok, Err, leb, length}
 use Rattle.std.proofs.lemmas.List.Edits.{sets}
 use Rattle.line.specs.Table.{member, every}
-use Rattle.line.specs.Refusal.{need, accepted}
+use Rattle.line.specs.declared.refusal.Refusal.{Refusal}
+use Rattle.line.specs.Refusal.{numbered, answered, need, accepted}
 use Rattle.bit_text.specs.declared.TextBits.{TextBits}
-use Rattle.bit_text.specs.declared.TextBits.TheVariants.{Refused, All, UpTo}
 
 -- THE CHARACTERS
 
@@ -35,33 +35,23 @@ unfoldable pub text_refusal : List ℕ → ℕ → ℕ
 text_refusal text lent = need (leb (length text) lent) 7 0
 
 -- the count of bits, and whether they are those of the whole text
-unfoldable pub text_answer : List ℕ → ℕ → TextBits
-text_answer text lent =
-    accepted (text_refusal text lent)
-    (cond (whole text) (All (length (bits_in text))) (UpTo (length (bits_in text))))
-    (Refused (text_refusal text lent))
+unfoldable pub text_answer : List ℕ → ℕ → Result TextBits Refusal
+text_answer text lent = answered (text_refusal text lent) (record { count = length (bits_in text); whole = whole text })
 
 -- the lent bytes after it: the bits at their front, and all others as they were
 unfoldable pub text_bytes : List ℕ → List ℕ → List ℕ
 text_bytes text out = accepted (text_refusal text (length out)) (sets out 0 (bits_in text)) out
 
--- what each case says: a refusal's number, 0 for none; how many bits are written; whether the text was read to its end
-abbrev pub text_number : TextBits → ℕ
-text_number (Refused n) = n
-text_number (All n) = 0
-text_number (UpTo n) = 0
+-- what each case says beside its number: how many bits are written; whether the text was read to its end
+abbrev pub bit_count : Result TextBits Refusal → ℕ
+bit_count (Err e) = 0
+bit_count (Ok t) = t.count
 
-abbrev pub bit_count : TextBits → ℕ
-bit_count (Refused n) = 0
-bit_count (All n) = n
-bit_count (UpTo n) = n
+abbrev pub took_all : Result TextBits Refusal → Bool
+took_all (Err e) = false
+took_all (Ok t) = t.whole
 
-abbrev pub took_all : TextBits → Bool
-took_all (Refused n) = false
-took_all (All n) = true
-took_all (UpTo n) = false
-
-pub record TextTold (text : List ℕ) (lent : ℕ) (r : TextBits) : Type 0 where
-  pub number_is : text_number r ≡ text_refusal text lent
+pub record TextTold (text : List ℕ) (lent : ℕ) (r : Result TextBits Refusal) : Type 0 where
+  pub number_is : numbered r ≡ text_refusal text lent
   pub count_is : bit_count r ≡ accepted (text_refusal text lent) (length (bits_in text)) 0
   pub all_is : took_all r ≡ accepted (text_refusal text lent) (whole text) false

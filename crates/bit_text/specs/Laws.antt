@@ -1,8 +1,8 @@
 -- What is shown of a text's bits. The proofs are `in_blocks`, `of_bits_lem` and `fits` of proofs/TextLaws and `worked` of proofs/Example.
-use Rattle.std.specs.Prelude.{ℕ, ◌≤◌, ◌≡◌, true, false, List, [], ◌∷◌, ◌++◌, T, length}
+use Rattle.std.specs.Prelude.{ℕ, ◌≤◌, ◌≡◌, true, false, List, [], ◌∷◌, ◌++◌, Ok, Err, T, length}
 use Rattle.line.specs.Table.{every}
 use Rattle.scrambler.specs.Bits.{is_bit}
-use Rattle.bit_text.specs.declared.TextBits.TheVariants.{Refused, All, UpTo}
+use Rattle.line.specs.declared.refusal.Refusal.TheVariants.{Lent}
 use Rattle.bit_text.specs.BitText.{bits_in, whole, text_answer, text_bytes}
 
 -- a text that comes in two blocks: the bits of the first and then those of the second, unless a character in the first ended it
@@ -25,7 +25,7 @@ Fits = (text : List ℕ) → length (bits_in text) ≤ length text
 
 -- worked values: `1 0` and a line end into four lent bytes; `1x0`; three characters and two lent bytes
 pub record Worked : Type 0 where
-  pub told : text_answer (49 ∷ 32 ∷ 48 ∷ 10 ∷ []) 4 ≡ All 2
+  pub told : text_answer (49 ∷ 32 ∷ 48 ∷ 10 ∷ []) 4 ≡ Ok (record { count = 2; whole = true })
   pub written : text_bytes (49 ∷ 32 ∷ 48 ∷ 10 ∷ []) (9 ∷ 9 ∷ 9 ∷ 9 ∷ []) ≡ 1 ∷ 0 ∷ 9 ∷ 9 ∷ []
-  pub ended : text_answer (49 ∷ 120 ∷ 48 ∷ []) 4 ≡ UpTo 1
-  pub too_few : text_answer (49 ∷ 32 ∷ 48 ∷ []) 2 ≡ Refused 7
+  pub ended : text_answer (49 ∷ 120 ∷ 48 ∷ []) 4 ≡ Ok (record { count = 1; whole = false })
+  pub too_few : text_answer (49 ∷ 32 ∷ 48 ∷ []) 2 ≡ Err Lent

@@ -2,73 +2,56 @@
 #![tactic(auto)]
 
 ghost use Rattle.std.specs.Prelude.{◌≡◌, length};
-ghost use Rattle.bit_text.specs.BitText.{is_blank, is_digit, text_answer, text_bytes, bit_count, took_all, TextTold};
+ghost use Rattle.bit_text.specs.BitText.{is_blank, is_digit, text_answer, text_bytes, TextTold};
 
-// A refusal's number; the count of bits of a text that was read to its end, or of those before a character that ended it.
+use line::Refusal;
+
+// How many bits a text gave, and whether it was read to its end: of one that a character ended, the bits before it.
 #[derive(Clone, Copy)]
-pub enum TextBits {
-    Refused(u8),
-    All(usize),
-    UpTo(usize),
-}
-
-// How many bits a text gave, and whether it was read to its end.
-pub fn count_of(t: TextBits) -> usize
-    ensures { result ≡ bit_count t }
-{
-    match t {
-        TextBits::Refused(_) => 0,
-        TextBits::All(n) => n,
-        TextBits::UpTo(n) => n,
-    }
-}
-
-pub fn took_all(t: TextBits) -> bool
-    ensures { result ≡ took_all t }
-{
-    match t {
-        TextBits::Refused(_) => false,
-        TextBits::All(_) => true,
-        TextBits::UpTo(_) => false,
-    }
+pub struct TextBits {
+    pub count: usize,
+    pub whole: bool,
 }
 
 // Whether a character is a blank or a line end.
+#[tactic(auto, unfolding(crate::specs::BitText::is_blank))]
 fn is_blank(c: u8) -> bool
     ensures { result ≡ is_blank c }
 {
-    (c == 32) | ((c == 9) | ((c == 10) | (c == 13)))
+    matches!(c, b' ' | b'\t' | b'\n' | b'\r')
 }
 
 // Whether a character stands for a bit.
+#[tactic(auto, unfolding(crate::specs::BitText::is_digit))]
 fn is_digit(c: u8) -> bool
     ensures { result ≡ is_digit c }
 {
-    (c == 48) | (c == 49)
+    matches!(c, b'0' | b'1')
 }
 
 // The bits of a text, one in a byte, into the front of `out`.
-pub fn take_bits(input: &[u8], out: &mut [u8]) -> TextBits
+pub fn take_bits(input: &[u8], out: &mut [u8]) -> Result<TextBits, Refusal>
     ensures value { result ≡ text_answer input.now (length out.old) }
     ensures out_after { out.new ≡ text_bytes input.now out.old }
     ensures text_told { TextTold input.now (length out.old) result }
 {
     if out.len() < input.len() {
-        return TextBits::Refused(7);
+        return Err(Refusal::Lent);
     }
     let mut n = 0;
-    let mut i = 0;
-    while i < input.len() {
-        let c = input[i];
-        if is_digit(c) {
-            out[n] = c - 48;
+    for c in input {
+        if is_digit(*c) {
+            out[n] = *c - b'0';
             n += 1;
-        } else {
-            if !is_blank(c) {
-                return TextBits::UpTo(n);
-            }
+        } else if !is_blank(*c) {
+            return Ok(TextBits {
+                count: n,
+                whole: false,
+            });
         }
-        i += 1;
     }
-    TextBits::All(n)
+    Ok(TextBits {
+        count: n,
+        whole: true,
+    })
 }

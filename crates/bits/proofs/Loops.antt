@@ -1,29 +1,13 @@
 -- What the loops ask, as laws on lists. Assumes nothing.
 use Prim.Native.Nat.{ℕ, suc, ◌+◌, ◌-◌, ◌/◌, ◌%◌, ◌^◌, ◌≤◌, ◌<◌}
-use mathlib.Core.Path.{◌≡◌, sym, ap, ap₂, ◌∙◌}
-use mathlib.Core.Bool.{Bool, ◌&&◌, and_assoc, and-true}
+use mathlib.Core.Path.{◌≡◌, ap, ap₂, ◌∙◌}
 use mathlib.Core.List.{List, [], ◌∷◌}
-use native.Mathlib.Numerals.{add-one}
 use native.Mathlib.Omega.{arith}
-use lib.Dec.{ltb}
-use lib.ListN.{length, get_or, set, drop, drop_of_length-le, length-set}
+use lib.ListN.{length, set, drop, drop_of_length-le, length-set}
 use lib.Pow.{shr-shr}
 use lib.Seq.{drop-cons, get_or-set_same}
-use Rattle.line.specs.Table.{every}
 use Rattle.line.proofs.Sets.{drop-sets-le}
-use Rattle.scrambler.specs.Bits.{is_bit, bits}
-
--- whether each byte is a bit: those before the i-th, and those from it on
-module _ (xs : List ℕ) (i : ℕ) (a b : Bool) (e : (a && every is_bit (drop i xs)) ≡ b) where
-  pub bits_go : i < length xs → ((a && ltb (get_or xs i 0) 2) && every is_bit (drop (i + 1) xs)) ≡ b
-  unfolding is_bit
-  bits_go h =
-      let rest : List ℕ = drop (i + 1) xs in
-      let step : every is_bit (drop i xs) ≡ (is_bit (get_or xs i 0) && every is_bit rest) = rw (add-one, drop-cons xs i 0) in
-      and_assoc a (ltb (get_or xs i 0) 2) (every is_bit rest) ∙ sym (ap (λ (t : Bool). a && t) step) ∙ e
-
-  pub bits_end : length xs ≤ i → a ≡ b
-  bits_end h = sym (and-true a) ∙ sym (ap (λ (l : List ℕ). a && every is_bit l) (drop_of_length-le xs h)) ∙ e
+use Rattle.scrambler.specs.Bits.{bits}
 
 -- the bits of a number from the last on: those from the k-th byte on are written, and the rest of the number has those before
 module _ (out : List ℕ) (n k v rest : ℕ) (len : length out ≡ n) (below : k ≤ n) (e : drop k out ≡ bits (n - k) v) (q : rest ≡ v / 2 ^ (n - k)) where

@@ -24,8 +24,10 @@ use Rattle.coding.specs.Rows.{row_index, with_row, Rows}
 use Rattle.deciding.proofs.DecideLaws.{Off}
 use Rattle.deciding.proofs.DistanceLaws.{sent_law}
 use Rattle.coding.proofs.RowLaws.{looked_up as row-looked-up}
-use Rattle.line.specs.Refusal.{need, or_next, accepted}
-use Rattle.line.proofs.RefusalLaws.{need_met, need_rest, need_intro, next-first, next_rest, or_some}
+use Rattle.std.specs.Prelude.{Result, Ok, Err}
+use Rattle.line.specs.declared.refusal.Refusal.{Refusal}
+use Rattle.line.specs.Refusal.{number, need, or_next, accepted}
+use Rattle.line.proofs.RefusalLaws.{some_number, answer_given, answer_refused, need_met, need_rest, need_intro, next-first, next_rest, left_done, left_kept}
 use Rattle.line.proofs.Tests.{lt_or_ge}
 use Rattle.line.proofs.TableLaws.{and_left, and_right, and_intro, is_true}
 use Rattle.line.proofs.PointLaws.{pairs-step, pairs_end, pairs-length, sent_round}
@@ -35,20 +37,18 @@ use Rattle.scrambler.specs.declared.Descrambled.{Descrambled}
 use Rattle.scrambler.specs.Register.{register, fresh, register_ok}
 use Rattle.scrambler.specs.Group.{descrambled}
 use Rattle.scrambler.proofs.GroupLaws.{descrambled_small, after_full, fill_law}
-use Rattle.receiver.specs.declared.Reference.{Reference}
-use Rattle.receiver.specs.declared.Reference.TheVariants.{Nothing as none, State as some}
+use Rattle.receiver.specs.Reference.{Reference}
+use Rattle.std.specs.Prelude.{None as none, Some as some}
 use Rattle.receiver.specs.declared.Receiver.{Receiver}
 use Rattle.receiver.specs.Receiver.{receiver, point, refused, lost, fields_ok, state_refusal, has_room, event_refusal, refusal, state_answer, point_answer, event_answer, answer, forgotten, state_line, state_next, point_next, event_next, next}
 use Rattle.receiver.specs.Calls.{after, EachAccepted, Heard, answers}
 use Rattle.receiver.proofs.OutcomeLaws.{accepted-placed}
 use Rattle.receiver.proofs.CallLaws.{accepted_valid, accepted-off, handed_back_passes, same_next, heard-accepted, heard_all}
 use Rattle.receiver.proofs.TurnLaws.{bits-group}
-use Rattle.bulk.specs.declared.Block.{Block}
-use Rattle.bulk.specs.declared.Block.TheVariants.{Refused as NotTaken, Taken}
 use Rattle.bulk.specs.declared.Step.{Step}
 use Rattle.bulk.specs.declared.Settled.{Settled}
-use Rattle.bulk.specs.Hearing.{step, state_step, left, AsLong, Hearing, Holds, later_at, settled_point, plain_at, held_next}
-use Rattle.bulk.specs.Block.{Given, in_units, points_of, plain_byte, answers_to, Parts, parts, wrote, Lent, sizes, lent_ok, block_refusal, coordinate_fault, places_ok, fault_of, FoundSo, number_of, state_of, Told, block, parts_after, JustWhen, AllHeard}
+use Rattle.bulk.specs.Hearing.{step, state_step, left, AsLong, Hearing, Holds, Ready, later_at, settled_point, plain_at, held_next}
+use Rattle.bulk.specs.Block.{Given, points_of, plain_byte, answers_to, Parts, parts, wrote, Lent, sizes, lent_ok, block_refusal, coordinate_fault, places_ok, fault_of, FoundSo, Told, block, parts_after, JustWhen, AllHeard}
 
 -- ONE POINT
 
@@ -262,106 +262,57 @@ module _ (s : Receiver) (g : Given) (n : Lent) where
       by true e = from_18_on (even_count e)
       by false e = refl
 
+  -- an accepted block has whole points
+  pub whole_points : block_refusal s g n ≡ 0 → length g.numbers % 2 ≡ 0
+  whole_points z = even_count (is_true _ (places s g n z))
+
   -- each coordinate of an accepted block is in range
   pub each_coordinate : block_refusal s g n ≡ 0 → T (coordinates_in g.numbers)
-  each_coordinate z = subst T (sym (each_of g.numbers (even_count (is_true _ (places s g n z))))) (all_in_range s g n z)
+  each_coordinate z = subst T (sym (each_of g.numbers (whole_points z))) (all_in_range s g n z)
 
 pub found_so : FoundSo
 found_so s g n = fault_law s g n
 
--- of whole numbers, as the code finds them one after the other
-module _ (s : Receiver) (zs : List ℤ) (n : Lent) (f : ℕ) (e : f ≡ state_refusal s) where
-  pub fault_state : (f ≡ 0 → ⊥) → f ≡ block_refusal s (in_units zs) n
-  unfolding block_refusal places_ok
-  fault_state h = e ∙ or_some (state_refusal s) _ (λ z. h (e ∙ z))
-
-  module _ (z : f ≡ 0) (lent : Bool) (q : lent ≡ ((eqb (length zs % 2) 0 && leb (length zs / 2) n.line) && leb (length zs / 2) n.plain) && leb (length zs / 2) n.distance) where
-    pub fault_lent : lent ≡ false → 7 ≡ block_refusal s (in_units zs) n
-    unfolding block_refusal places_ok
-    fault_lent h = rw (← e, z, ← lent_is s (in_units zs) n, ← q, h)
-
-    module _ (h : lent ≡ true) (r : Bool) (c : r ≡ coordinates_in zs) where
-      i : r ≡ every in_range (pairs zs)
-      i =
-          let even : Bool = eqb (length zs % 2) 0 in
-          let line : Bool = leb (length zs / 2) n.line in
-          let plain : Bool = leb (length zs / 2) n.plain in
-          let lent-so : T (((even && line) && plain) && leb (length zs / 2) n.distance) = subst T (sym (sym q ∙ h)) tt in
-          c ∙ each_of zs (eqb→eq (length zs % 2) 0 (and_left even line (and_left (even && line) plain (and_left ((even && line) && plain) (leb (length zs / 2) n.distance) lent-so))))
-
-      pub fault_range : r ≡ false → 8 ≡ block_refusal s (in_units zs) n
-      unfolding block_refusal places_ok
-      fault_range k = rw (← e, z, ← lent_is s (in_units zs) n, ← q, h, ← i, k)
-
-      module _ (k : r ≡ true) where
-        room_last : room_number s (in_units zs) n ≡ block_refusal s (in_units zs) n
-        unfolding block_refusal places_ok
-        room_last = rw (← e, z, ← lent_is s (in_units zs) n, ← q, h, ← i, k)
-
-        pub fault_room : 4294967295 - s.place.0 < length zs / 2 → 16 ≡ block_refusal s (in_units zs) n
-        unfolding has_room
-        fault_room l =
-            let l2 = pairs-length zs in
-            ap (λ (t : Bool). need t 16 0) (sym (lt-leb (s.place.0 + length (pairs zs)) 4294967295 (omega arith))) ∙ room_last
-
-        pub fault_none : s.place.0 ≤ 4294967295 → length zs / 2 ≤ 4294967295 - s.place.0 → 0 ≡ block_refusal s (in_units zs) n
-        unfolding has_room
-        fault_none u l =
-            let l2 = pairs-length zs in
-            ap (λ (t : Bool). need t 16 0) (sym (le-leb (s.place.0 + length (pairs zs)) 4294967295 (omega arith))) ∙ room_last
-
--- and all at once
+-- the place, as the code asks for it
 pub room_is : (s : Receiver) (n : ℕ) → s.place.0 ≤ 4294967295 → leb n (4294967295 - s.place.0) ≡ has_room s n
 unfolding has_room
 room_is s n l =
     ⊎_elim (λ h. lt-leb n (4294967295 - s.place.0) h ∙ sym (lt-leb (s.place.0 + n) 4294967295 (omega arith)))
     (λ h. le-leb n (4294967295 - s.place.0) h ∙ sym (le-leb (s.place.0 + n) 4294967295 (omega arith))) (lt_or_ge (4294967295 - s.place.0) n)
 
--- the same from its parts: the number of the place, what comes after number 7, the state's, what comes after it, all
-pub fault_found : (s : Receiver) (count f : ℕ) (n : Lent) (room late state rest all : ℕ) → s.place.0 ≤ 4294967295 → room ≡ need (leb (count / 2) (4294967295 - s.place.0)) 16 0 → late ≡ or_next f room
-    → state ≡ state_refusal s → rest ≡ need (((eqb (count % 2) 0 && leb (count / 2) n.line) && leb (count / 2) n.plain) && leb (count / 2) n.distance) 7 late → all ≡ or_next state rest → all ≡ fault_of s count f n
+-- where nothing before number 16 refuses
+pub fault_room : (s : Receiver) (count f : ℕ) (n : Lent) (lent : Bool) (r : ℕ) → s.place.0 ≤ 4294967295
+    → lent ≡ ((eqb (count % 2) 0 && leb (count / 2) n.line) && leb (count / 2) n.plain) && leb (count / 2) n.distance
+    → 0 ≡ state_refusal s → 0 ≡ need lent 7 0 → 0 ≡ f → r ≡ need (leb (count / 2) (4294967295 - s.place.0)) 16 0 → r ≡ fault_of s count f n
 unfolding fault_of places_ok
-fault_found s count f n room late state rest all l a b c d e = rw (e, d, c, b, a, room_is s (count / 2) l)
-
--- what the answer says
-told : (s : Receiver) (g : Given) (n : Lent) → Told s g n (block s g n)
-unfolding block
-told s g n = record { number_is = number (block_refusal s g n); state_is = state (block_refusal s g n) }
+fault_room s count f n lent r l a x y z e =
+    e ∙ rw (← a, room_is s (count / 2) l) (by (state_refusal s) lent f (need (has_room s (count / 2)) 16 0) x y z)
   where
-    number : (n : ℕ) → number_of (accepted n (Taken (after s (map point (points_of g)))) (NotTaken n)) ≡ n
-    number zero = refl
-    number (suc n) = refl
+    by : (k : ℕ) (p : Bool) (f last : ℕ) → 0 ≡ k → 0 ≡ need p 7 0 → 0 ≡ f → last ≡ or_next k (need p 7 (or_next f last))
+    by zero true zero last i j h = refl
+    by zero true (suc f) last i j h = absurd (omega arith)
+    by zero false f last i j h = absurd (omega arith)
+    by (suc k) p f last i j h = absurd (omega arith)
 
-    state : (n : ℕ) → state_of s (accepted n (Taken (after s (map point (points_of g)))) (NotTaken n)) ≡ accepted n (after s (map point (points_of g))) s
-    state zero = refl
-    state (suc n) = refl
-
--- the call
+-- the call: refused, and taken
 module _ (s : Receiver) (g : Given) (b : Parts) where
-  abbrev Done : Block → Parts → Type 0
-  Done r c = (r ≡ block s g (sizes b)) × (c ≡ parts_after s g b)
+  abbrev Done : Result Receiver Refusal → Parts → Type 0
+  Done r c = ((r ≡ block s g (sizes b)) × (c ≡ parts_after s g b)) × Told s g (sizes b) r
 
-  with_told : (r : Block) (c : Parts) → Done r c → Done r c × Told s g (sizes b) r
-  with_told r c d = (d, subst (Told s g (sizes b)) (sym d.0) (told s g (sizes b)))
-
-  pub refused_law : (f : ℕ) → f ≡ block_refusal s g (sizes b) → (f ≡ 0 → ⊥) → Done (NotTaken f) b × Told s g (sizes b) (NotTaken f)
+  pub refused_law : (f : Refusal) → number f ≡ block_refusal s g (sizes b) → Done (Err f) b
   unfolding block parts_after
-  refused_law zero e h = absurd (h refl)
-  refused_law (suc n) e h =
-      with_told (NotTaken (suc n)) b (
-        ap (λ (k : ℕ). accepted k (Taken (after s (map point (points_of g)))) (NotTaken k)) e,
-        ap (λ (k : ℕ). accepted k (wrote b 0 (answers_to s (points_of g))) b) e,
+  refused_law f e =
+      let some : block_refusal s g (sizes b) ≡ 0 → ⊥ = λ z. some_number f (e ∙ z) in (
+        (answer_refused f _ (after s (map point (points_of g))) e, left_kept _ (wrote b 0 (answers_to s (points_of g))) b some),
+        record { number_is = e; state_is = left_kept _ (after s (map point (points_of g))) s some },
       )
 
-  pub taken_law : (f : ℕ) (t : Receiver) (c : Parts) → f ≡ block_refusal s g (sizes b) → f ≡ 0 → t ≡ after s (map point (points_of g))
-      → c ≡ wrote b 0 (answers_to s (points_of g)) → Done (Taken t) c × Told s g (sizes b) (Taken t)
+  pub taken_law : (t : Receiver) (c : Parts) → block_refusal s g (sizes b) ≡ 0 → t ≡ after s (map point (points_of g)) → c ≡ wrote b 0 (answers_to s (points_of g)) → Done (Ok t) c
   unfolding block parts_after
-  taken_law f t c e z et ec =
-      let q : 0 ≡ block_refusal s g (sizes b) = sym z ∙ e in
-      with_told (Taken t) c (
-        ap Taken et ∙ ap (λ (k : ℕ). accepted k (Taken (after s (map point (points_of g)))) (NotTaken k)) q,
-        ec ∙ ap (λ (k : ℕ). accepted k (wrote b 0 (answers_to s (points_of g))) b) q,
-      )
+  taken_law t c z et ec = (
+    (ap Ok et ∙ answer_given _ (after s (map point (points_of g))) z, ec ∙ left_done _ (wrote b 0 (answers_to s (points_of g))) b z),
+    record { number_is = sym z; state_is = et ∙ left_done _ (after s (map point (points_of g))) s z },
+  )
 
   -- all three parts hold a place for each point
   pub holds : block_refusal s g (sizes b) ≡ 0 → Holds g.numbers b
@@ -415,16 +366,19 @@ module _ (s : Receiver) (b : Parts) (zs : List ℤ) (j : ℕ) (t : Receiver) (c 
   here = at (get_or zs (2 * k) (pos 0)) (get_or zs (2 * k + 1) (pos 0))
 
   -- the rows of the first state serve, and what is left can be done from here
-  pub hearing_rows : (rows : List ℕ) → Rows s.mode rows → Rows t.mode rows
+  hearing_rows : (rows : List ℕ) → Rows s.mode rows → Rows t.mode rows
   hearing_rows rows r = subst (λ (m : ℕ). Rows m rows) (sym h.mode_stays) r
 
-  pub hearing_here : Hearing t c zs k t c k
+  hearing_here : Hearing t c zs k t c k
   hearing_here = hearing_start t c zs k h.place h.free
 
   pub hearing_holds : Holds zs b → Holds zs c
   hearing_holds g =
       let l = h.as_long in
       record { line = omega (arith, g.line, l.line); plain = omega (arith, g.plain, l.plain); distance = omega (arith, g.distance, l.distance) }
+
+  pub hearing_ready : (rows : List ℕ) → Rows s.mode rows → Holds zs b → Ready t rows c zs k
+  hearing_ready rows r g = record { rows_are = hearing_rows rows r; heard = hearing_here; holds = hearing_holds g }
 
   module _ (i : k < length zs / 2) where
     now_here : left zs k ≡ here ∷ left zs (k + 1)
@@ -577,6 +531,12 @@ run_start s b zs j x e h =
 pub run_room : (s t : Receiver) (b c : Parts) (zs : List ℤ) (j k : ℕ) → s.place.0 ≤ 4294967295 → EachAccepted s (map point (left zs j)) → Hearing s b zs j t c k → s.place.0 + (k - j) ≤ 4294967295
 run_room s t b c zs j k r f h =
     omega (arith, each_has_place s (left zs j) r f, pairs-length (drop (2 * j) zs), length-drop (2 * j) zs, h.on, h.place)
+
+-- at the end of the points
+pub run_over : (s : Receiver) (b c : Parts) (zs : List ℤ) (j k x n h count : ℕ) → Hearing s b zs j (later_at s x n h count (k - j)) c k → length zs / 2 ≤ k
+    → Hearing s b zs j (later_at s x n h count (length zs / 2 - j)) c (length zs / 2)
+run_over s b c zs j k x n h count i l =
+    subst (λ (m : ℕ). Hearing s b zs j (later_at s x n h count (m - j)) c m) (let e : k ≡ length zs / 2 = omega (arith, i.place) in e) i
 
 -- the distance from the constellation's point
 pub from_constellation : (m y : ℕ) (re im : ℤ) (points : List Point) (n : ℕ) → SFits w16 re → SFits w16 im → Tabled 16 (sent_point m) (at (pos 0) (pos 0)) points

@@ -1,20 +1,19 @@
 -- Many points by one call: as one call of a single point after the other, all or none. Points are numbers, re and im in turn, in units
 -- or, since document 02's R-3, in levels. An answer is two bytes and, since R-1, a number for each point, in three lent parts; what is
 -- lent beyond them stays.
-use Rattle.std.specs.Prelude.{ℕ, ◌+◌, ◌*◌, ◌/◌, ◌%◌, ◌≤◌, ◌≡◌, Bool, true, ◌&&◌, List, map, ◌↔◌, T, eqb, leb, ℤ, Float, length}
+use Rattle.std.specs.Prelude.{ℕ, ◌+◌, ◌*◌, ◌/◌, ◌%◌, ◌≤◌, ◌≡◌, Bool, true, ◌&&◌, List, map, ◌↔◌, T, eqb, leb, ℤ, Float, length, Result, Ok, Err}
 use Rattle.std.proofs.lemmas.List.Edits.{sets}
 use Rattle.line.specs.declared.Point.{Point}
 use Rattle.line.specs.Point.{pairs, in_range, coordinates_in}
 use Rattle.line.specs.Table.{every}
 use Rattle.levels.specs.Levels.{is_finite, rounded}
-use Rattle.line.specs.Refusal.{need, or_next, accepted}
+use Rattle.line.specs.declared.refusal.Refusal.{Refusal}
+use Rattle.line.specs.Refusal.{numbered, answered, need, or_next, accepted}
 use Rattle.scrambler.specs.Bits.{value}
 use Rattle.scrambler.specs.Group.{plain_of, unsettled_in}
 use Rattle.receiver.specs.declared.Receiver.{Receiver}
 use Rattle.receiver.specs.Receiver.{point, Answer, refused, reference, decoded, lost, state_refusal, has_room}
 use Rattle.receiver.specs.Calls.{after, EachAccepted, heard, events, answers}
-use Rattle.bulk.specs.declared.Block.{Block}
-use Rattle.bulk.specs.declared.Block.TheVariants.{Refused as NotTaken, Taken}
 
 -- WHAT IS GIVEN
 
@@ -123,22 +122,19 @@ FoundSo = (s : Receiver) (g : Given) (n : Lent) → fault_of s (length g.numbers
 
 -- THE CALL
 
--- what each case of the answer says: a refusal's number, 0 for none; and the state that a later call gets
-abbrev pub number_of : Block → ℕ
-number_of (NotTaken n) = n
-number_of (Taken t) = 0
+-- the state that a later call gets
+abbrev pub state_of : Receiver → Result Receiver Refusal → Receiver
+state_of s (Err e) = s
+state_of s (Ok t) = t
 
-abbrev pub state_of : Receiver → Block → Receiver
-state_of s (NotTaken n) = s
-state_of s (Taken t) = t
-
-pub record Told (s : Receiver) (g : Given) (n : Lent) (r : Block) : Type 0 where
-  pub number_is : number_of r ≡ block_refusal s g n
+-- what each case of the answer says: a refusal's number, 0 for none; and that state
+pub record Told (s : Receiver) (g : Given) (n : Lent) (r : Result Receiver Refusal) : Type 0 where
+  pub number_is : numbered r ≡ block_refusal s g n
   pub state_is : state_of s r ≡ accepted (block_refusal s g n) (after s (map point (points_of g))) s
 
--- the refusal's number alone, or the state after the single calls
-unfoldable pub block : Receiver → Given → Lent → Block
-block s g n = accepted (block_refusal s g n) (Taken (after s (map point (points_of g)))) (NotTaken (block_refusal s g n))
+-- the refusal alone, or the state after the single calls
+unfoldable pub block : Receiver → Given → Lent → Result Receiver Refusal
+block s g n = answered (block_refusal s g n) (after s (map point (points_of g)))
 
 -- the lent parts after it: a refusal leaves them
 unfoldable pub parts_after : Receiver → Given → Parts → Parts

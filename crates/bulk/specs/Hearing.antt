@@ -5,13 +5,13 @@ use Rattle.line.specs.Mode.{width, capacity, face}
 use Rattle.line.specs.Point.{pairs}
 use Rattle.deciding.specs.Sizes.{ring_of, ring_index}
 use Rattle.coding.specs.Code.{group}
-use Rattle.coding.specs.Rows.{row_index, with_row}
+use Rattle.coding.specs.Rows.{row_index, with_row, Rows}
 use Rattle.deciding.specs.declared.SquaredUnits.{SquaredUnits}
 use Rattle.scrambler.specs.declared.Descrambled.{Descrambled}
 use Rattle.scrambler.specs.Register.{register}
 use Rattle.scrambler.specs.Group.{descrambled}
-use Rattle.receiver.specs.declared.Reference.{Reference}
-use Rattle.receiver.specs.declared.Reference.TheVariants.{Nothing as none, State as some}
+use Rattle.receiver.specs.Reference.{Reference}
+use Rattle.std.specs.Prelude.{None as none, Some as some}
 use Rattle.receiver.specs.declared.Receiver.{Receiver}
 use Rattle.receiver.specs.Receiver.{receiver, point, Answer, state_next}
 use Rattle.receiver.specs.Calls.{after, EachAccepted}
@@ -56,6 +56,12 @@ pub record Holds (zs : List ℤ) (b : Parts) : Type 0 where
   pub line : length zs / 2 ≤ length b.line
   pub plain : length zs / 2 ≤ length b.plain
   pub distance : length zs / 2 ≤ length b.distance
+
+-- the points from number k on can be heard in the state s: its mode's rows, none of them refused, a place for each answer
+pub record Ready (s : Receiver) (rows : List ℕ) (b : Parts) (zs : List ℤ) (k : ℕ) : Type 0 where
+  pub rows_are : Rows s.mode rows
+  pub heard : Hearing s b zs k s b k
+  pub holds : Holds zs b
 
 -- a receiver i intervals after s, with a reference x and a register of bits n, of which h are held, and the guard's count c
 abbrev pub later_at : Receiver → ℕ → ℕ → ℕ → ℕ → ℕ → Receiver

@@ -4,24 +4,19 @@
 ghost use Rattle.std.specs.Prelude.{◌≡◌, map, ◌+◌, ◌*◌, ◌/◌, ◌^◌, ◌<◌, ◌≤◌, true, length};
 ghost use Rattle.line.specs.Mode.{width, guarded, capacity};
 ghost use Rattle.line.specs.Point.{at, pairs};
+ghost use Rattle.line.specs.Refusal.{numbered};
 ghost use Rattle.scrambler.specs.Register.{register};
 ghost use Rattle.scrambler.specs.Group.{descrambled};
 ghost use Rattle.coding.specs.Rows.{Rows};
 ghost use Rattle.receiver.specs.Receiver.{receiver, point, lost, refusal, answer, forgotten, next};
 ghost use Rattle.receiver.specs.Calls.{after, EachAccepted};
-ghost use Rattle.bulk.specs.Hearing.{step, state_step, settled_point, plain_at, held_next, Hearing, Holds, later_at};
-ghost use Rattle.bulk.specs.Block.{in_units, answers_to, parts, wrote, sizes, block_refusal, Told, block, parts_after};
+ghost use Rattle.bulk.specs.Hearing.{step, state_step, settled_point, plain_at, held_next, Hearing, Holds, later_at, Ready};
+ghost use Rattle.bulk.specs.Block.{in_units, answers_to, parts, wrote, sizes, coordinate_fault, fault_of, Told, block, parts_after};
 
 use deciding::SquaredUnits;
-use receiver::{Intervals, Receiver, Reference};
+use line::Refusal;
+use receiver::{Intervals, Receiver};
 use scrambler::{BitCount, Descrambled, Register};
-
-// The state after all points, or the number that refuses them.
-#[derive(Clone, Copy)]
-pub enum Block {
-    Refused(u8),
-    Taken(Receiver),
-}
 
 // The two bytes of a point, its distance, and the state after it.
 #[derive(Clone, Copy)]
@@ -32,65 +27,58 @@ pub struct Step {
     pub next: Receiver,
 }
 
-// The state one interval on.
-fn moved(s: Receiver, reference: Reference, line: Register) -> Receiver
-    requires { s.place.0 < 4294967295 }
-    ensures { result ≡ receiver s.mode s.role reference line (s.place.0 + 1) }
-{
-    Receiver {
-        mode: s.mode,
-        role: s.role,
-        reference,
-        line,
-        place: Intervals(s.place.0 + 1),
-    }
-}
-
 // A point decided as the state y at the distance u.
+#[tactic(auto, using(crate::proofs::BlockLaws::plain_fits, crate::proofs::BlockLaws::take_reference))]
 fn take(rows: &[u8; 16], s: Receiver, y: u8, u: SquaredUnits) -> Step
     requires { Rows s.mode rows.now × (s.place.0 < 4294967295) }
     ensures { result ≡ state_step s s.reference y u }
 {
-    let reference = s.reference;
-    let h = s.line;
-    match reference {
-        Reference::Nothing => {
-            let next = moved(s, Reference::State(y), h);
-            Step {
-                line: 16,
-                plain: 0,
-                distance: u,
-                next,
-            }
-        }
-        Reference::State(x) => {
+    let next = Receiver {
+        reference: Some(y),
+        place: Intervals(s.place.0 + 1),
+        ..s
+    };
+    match s.reference {
+        None => Step {
+            line: 16,
+            plain: 0,
+            distance: u,
+            next,
+        },
+        Some(x) => {
+            let h = s.line;
             let line = coding::group_by(s.mode, rows, x, y);
             let d = scrambler::descramble_group(s.mode, s.role, h.bits, h.held.0, h.count.0, line);
-            let after = d.next;
             let plain = 16 * d.unsettled.0 + d.plain;
-            let next = moved(s, Reference::State(y), after);
             Step {
                 line,
                 plain,
                 distance: u,
-                next,
+                next: Receiver {
+                    line: d.next,
+                    ..next
+                },
             }
         }
     }
 }
 
 // The origin: a gap of one interval.
+#[tactic(auto, using(crate::proofs::BlockLaws::lose_law))]
 fn lose(s: Receiver) -> Step
     requires { s.place.0 < 4294967295 }
     ensures { result ≡ step (lost 1) (forgotten s 1) }
 {
-    let line = scrambler::fresh_register();
-    let next = moved(s, Reference::Nothing, line);
     Step {
         line: 17,
         plain: 0,
         distance: SquaredUnits(0),
-        next,
+        next: Receiver {
+            reference: None,
+            line: scrambler::fresh_register(),
+            place: Intervals(s.place.0 + 1),
+            ..s
+        },
     }
 }
 
@@ -120,7 +108,9 @@ struct Settled {
     count: u8,
 }
 
-// The data bits of w line bits after a full register.
+// The data bits of w line bits after a full register. `receiver::descramble` has the same choice in it: a public function there, with its
+// contract, would be no plainer than these lines.
+#[tactic(auto, using(scrambler::proofs::GroupLaws::counted_law, scrambler::proofs::GroupLaws::next_law))]
 fn full_bits(mode: u8, role: u8, bits: u32, count: u8, line: u8) -> Descrambled
     ensures { result ≡ descrambled mode role (register bits (capacity mode) count) line }
 {
@@ -130,9 +120,9 @@ fn full_bits(mode: u8, role: u8, bits: u32, count: u8, line: u8) -> Descrambled
     scrambler::descramble_next(mode, role, bits, line)
 }
 
-// A point after the reference x and a full register.
-fn settled_in(
-    mode: u8,
+// A point after the reference x and a full register, in the mode M.
+#[tactic(auto, using(crate::proofs::BlockLaws::settled_whole))]
+fn settled_in<const M: u8>(
     rows: &[u8; 16],
     role: u8,
     x: u8,
@@ -141,11 +131,11 @@ fn settled_in(
     re: i16,
     im: i16,
 ) -> Settled
-    ensures { result ≡ settled_point mode role x bits count rows.now re im }
+    ensures { result ≡ settled_point M role x bits count rows.now re im }
 {
-    let y = deciding::state_in(mode, re, im);
-    let line = coding::group_by(mode, rows, x, y);
-    let d = full_bits(mode, role, bits, count, line);
+    let y = deciding::state_in(M, re, im);
+    let line = coding::group_by(M, rows, x, y);
+    let d = full_bits(M, role, bits, count, line);
     Settled {
         state: y,
         line,
@@ -171,17 +161,17 @@ fn settled_point(
     ensures { result ≡ settled_point mode role x bits count rows.now re im }
 {
     if mode <= 1 {
-        settled_in(1, rows, role, x, bits, count, re, im)
+        settled_in::<1>(rows, role, x, bits, count, re, im)
     } else if mode <= 2 {
-        settled_in(2, rows, role, x, bits, count, re, im)
+        settled_in::<2>(rows, role, x, bits, count, re, im)
     } else if mode <= 3 {
-        settled_in(3, rows, role, x, bits, count, re, im)
+        settled_in::<3>(rows, role, x, bits, count, re, im)
     } else if mode <= 4 {
-        settled_in(4, rows, role, x, bits, count, re, im)
+        settled_in::<4>(rows, role, x, bits, count, re, im)
     } else if mode <= 5 {
-        settled_in(5, rows, role, x, bits, count, re, im)
+        settled_in::<5>(rows, role, x, bits, count, re, im)
     } else {
-        settled_in(6, rows, role, x, bits, count, re, im)
+        settled_in::<6>(rows, role, x, bits, count, re, im)
     }
 }
 
@@ -218,21 +208,22 @@ fn later(s: Receiver, x: u8, bits: u32, held: u8, count: u8, i: usize) -> Receiv
     ensures { result ≡ later_at s x bits held count i }
 {
     Receiver {
-        mode: s.mode,
-        role: s.role,
-        reference: Reference::State(x),
+        reference: Some(x),
         line: Register {
             bits,
             held: BitCount(held),
             count: BitCount(count),
         },
         place: Intervals(s.place.0 + i as u32),
+        ..s
     }
 }
 
 // Points that nothing refuses, from point `from` up to an origin or the end, after a reference and, with the guard, a full register. Where
 // there is no guard a point is read as after a full register in any case: how many line bits are held changes none of the bits, only which
-// data bits are settled. Nearly all points come through this loop; all that it calls is put in line.
+// data bits are settled. Nearly all points come through this loop; all that it calls is put in line. The reference and the register go round
+// it as numbers, since a struct of them is put together and taken apart for each point. The three lent parts stay three slices here and
+// below: a struct of `&mut` slices would need its three ghost names kept by each contract.
 fn hear_run(
     rows: &[u8; 16],
     s: Receiver,
@@ -243,8 +234,9 @@ fn hear_run(
     distance: &mut [u32],
     from: usize,
 ) -> Run
-    requires { (guarded s.mode ≡ true → s.line.held.0 ≡ capacity s.mode) × Rows s.mode rows.now × (s ≡ later_at s reference s.line.bits s.line.held.0 s.line.count.0 0) × Hearing s (parts line.old plain.old distance.old) points.now from s (parts line.old plain.old distance.old) from
-        × Holds points.now (parts line.old plain.old distance.old) }
+    requires ready { Ready s rows.now (parts line.old plain.old distance.old) points.now from }
+    requires full { guarded s.mode ≡ true → s.line.held.0 ≡ capacity s.mode }
+    requires begun { s ≡ later_at s reference s.line.bits s.line.held.0 s.line.count.0 0 }
     ensures { Hearing s (parts line.old plain.old distance.old) points.now from result.state (parts line.new plain.new distance.new) result.at }
 {
     let n = points.len() / 2;
@@ -253,8 +245,7 @@ fn hear_run(
     let mut held = s.line.held.0;
     let mut count = s.line.count.0;
     let constellation = line::constellation(s.mode);
-    let mut k = from;
-    while k < n {
+    for k in from..n {
         let re = points[2 * k];
         let im = points[2 * k + 1];
         if deciding::is_origin(re, im) {
@@ -274,11 +265,10 @@ fn hear_run(
         bits = h.bits;
         count = h.count;
         x = h.state;
-        k += 1;
     }
     Run {
-        at: k,
-        state: later(s, x, bits, held, count, k - from),
+        at: n,
+        state: later(s, x, bits, held, count, n - from),
     }
 }
 
@@ -292,14 +282,12 @@ fn hear_on(
     distance: &mut [u32],
     from: usize,
 ) -> Run
-    requires { Rows s.mode rows.now × Hearing s (parts line.old plain.old distance.old) points.now from s (parts line.old plain.old distance.old) from
-        × Holds points.now (parts line.old plain.old distance.old) }
+    requires { Ready s rows.now (parts line.old plain.old distance.old) points.now from }
     ensures { Hearing s (parts line.old plain.old distance.old) points.now from result.state (parts line.new plain.new distance.new) result.at }
 {
-    let reference = s.reference;
-    match reference {
-        Reference::Nothing => Run { at: from, state: s },
-        Reference::State(x) => {
+    match s.reference {
+        None => Run { at: from, state: s },
+        Some(x) => {
             if (s.line.held.0 == line::capacity_of(s.mode)) | !line::has_guard(s.mode) {
                 return hear_run(rows, s, x, points, line, plain, distance, from);
             }
@@ -318,8 +306,7 @@ fn hear_next(
     distance: &mut [u32],
     from: usize,
 ) -> Run
-    requires { Rows s.mode rows.now × Hearing s (parts line.old plain.old distance.old) points.now from s (parts line.old plain.old distance.old) from
-        × Holds points.now (parts line.old plain.old distance.old) }
+    requires { Ready s rows.now (parts line.old plain.old distance.old) points.now from }
     ensures { Hearing s (parts line.old plain.old distance.old) points.now from result.state (parts line.new plain.new distance.new) result.at
         × (from < length points.now / 2 → from < result.at) }
 {
@@ -330,14 +317,14 @@ fn hear_next(
     line[from] = h.line;
     plain[from] = h.plain;
     distance[from] = h.distance.0;
-    let next = h.next;
     Run {
         at: from + 1,
-        state: next,
+        state: h.next,
     }
 }
 
 // Points that nothing refuses: those after a reference, then the one at which they end, and so on.
+#[tactic(auto, using(crate::proofs::BlockLaws::hearing_start, crate::proofs::BlockLaws::hearing_ready, crate::proofs::BlockLaws::hearing_then))]
 fn hear_all(
     s: Receiver,
     points: &[i16],
@@ -353,36 +340,33 @@ fn hear_all(
     let rows = coding::rows_of(s.mode);
     let mut t = s;
     let mut k = 0;
+    // No `for`: a turn moves k on by as many points as it takes.
     while k < n {
         let run = hear_on(&rows, t, points, line, plain, distance, k);
-        let state = run.state;
-        let one = hear_next(&rows, state, points, line, plain, distance, run.at);
-        let after = one.state;
-        t = after;
+        let one = hear_next(&rows, run.state, points, line, plain, distance, run.at);
+        t = one.state;
         k = one.at;
     }
     t
 }
 
-// The number that refuses a block with so much lent for line bits, data bits and distances, 0 for none.
-fn block_fault(s: Receiver, points: &[i16], line: usize, plain: usize, distance: usize) -> u8
-    ensures { result ≡ block_refusal s (in_units points.now) (record { line = line; plain = plain; distance = distance }) }
+// What refuses a block with so much lent for line bits, data bits and distances.
+#[tactic(auto, unfolding(crate::specs::Block::fault_of, crate::specs::Block::coordinate_fault, crate::specs::Block::places_ok))]
+fn block_fault(
+    s: Receiver,
+    points: &[i16],
+    line: usize,
+    plain: usize,
+    distance: usize,
+) -> Result<(), Refusal>
+    ensures { numbered result ≡ fault_of s (length points.now) (coordinate_fault (in_units points.now)) (record { line = line; plain = plain; distance = distance }) }
 {
-    let fault = receiver::state_fault(s);
-    if fault != 0 {
-        return fault;
-    }
+    receiver::state_fault(s)?;
     let n = points.len() / 2;
-    if (points.len() % 2 == 0) & (n <= line) & (n <= plain) & (n <= distance) {
-        if line::all_in_range(points) {
-            if n <= (4294967295 - s.place.0) as usize {
-                return 0;
-            }
-            return 16;
-        }
-        return 8;
-    }
-    7
+    let lent = (points.len() % 2 == 0) & (n <= line) & (n <= plain) & (n <= distance);
+    line::need(lent, Refusal::Lent)?;
+    line::need(line::all_in_range(points), Refusal::Coordinate)?;
+    line::need(n <= (u32::MAX - s.place.0) as usize, Refusal::Intervals)
 }
 
 // A state field by field: the caller writes it so, and read in larger pieces it would have to wait for what was written.
@@ -410,15 +394,12 @@ pub fn receive_points(
     line: &mut [u8],
     plain: &mut [u8],
     distance: &mut [u32],
-) -> Block
+) -> Result<Receiver, Refusal>
     ensures value { (result ≡ block s (in_units points.now) (sizes (parts line.old plain.old distance.old)))
         × (parts line.new plain.new distance.new ≡ parts_after s (in_units points.now) (parts line.old plain.old distance.old)) }
     ensures told { Told s (in_units points.now) (sizes (parts line.old plain.old distance.old)) result }
 {
     let t = by_fields(s);
-    let fault = block_fault(t, points, line.len(), plain.len(), distance.len());
-    if fault != 0 {
-        return Block::Refused(fault);
-    }
-    Block::Taken(hear_all(t, points, line, plain, distance))
+    block_fault(t, points, line.len(), plain.len(), distance.len())?;
+    Ok(hear_all(t, points, line, plain, distance))
 }

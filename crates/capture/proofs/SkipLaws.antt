@@ -7,9 +7,14 @@ use native.Mathlib.Omega.{arith}
 use lib.ListN.{length, take, drop, length-drop}
 use lib.Seq.{drop-drop, take-nil}
 use Rattle.store.specs.Chain.{sum_over}
+use Rattle.store.specs.Layout.{Event, point, lost}
 use Rattle.capture.specs.Capture.{first, size, events_in}
 use Rattle.capture.specs.Skip.{skipped_of}
 use Rattle.capture.proofs.BlockLaws.{Begin, none, one, begin, events_none, events_one}
+
+pub size_not_0 : (e : Event) → size e ≡ 0 → ⊥
+size_not_0 (point p) h = omega arith
+size_not_0 (lost n) h = omega arith
 
 -- k events of u bytes are skipped: what is left to skip is what was left to skip
 pub record Skipping (bs : List ℕ) (n k u : ℕ) : Type 0 where

@@ -1,13 +1,13 @@
 -- A capture: points and lost intervals in a file, as the commands `store`, `points`, `send` and `receive` read and write them. A point is re,
 -- then im, two signed 16-bit numbers, little-endian. Lost intervals are the pair (−32768, −32768), which no point in range is, and their count
 -- in the next four bytes. Its events are those of a track: each point and each lost count one.
-use Rattle.std.specs.Prelude.{cond, List, [], ◌∷◌, ◌++◌, ℕ, zero, suc, eqb, ltb, ℤ, length, drop}
+use Rattle.std.specs.Prelude.{cond, Option, Some, None, List, [], ◌∷◌, ◌++◌, ℕ, zero, suc, eqb, ltb, ℤ, length, drop}
 use Rattle.line.specs.Point.{at}
 use Rattle.octets.specs.Number.{u32, le32, le_i16}
 use Rattle.store.specs.Chain.{sum_over}
 use Rattle.store.specs.Layout.{Event, point, lost, point_at, point_bytes}
-use Rattle.capture.specs.declared.Next.{Next}
-use Rattle.capture.specs.declared.Next.TheVariants.{Point, Lost, Short}
+use Rattle.capture.specs.declared.Event.{Event as Read}
+use Rattle.capture.specs.declared.Event.TheVariants.{Point, Lost}
 
 -- WRITING
 
@@ -64,8 +64,11 @@ events_in bs = events_from (length bs) bs
 unfoldable pub rest_in : List ℕ → List ℕ
 rest_in bs = drop (sum_over size (events_in bs)) bs
 
--- what each case of `next_event` says
-abbrev pub told : Next → List Event
-told (Point re im) = point (at re im) ∷ []
-told (Lost n) = lost n ∷ []
-told Short = []
+-- what each case of an event that is read says, and what `next_event` says
+abbrev pub event_of : Read → Event
+event_of (Point re im) = point (at re im)
+event_of (Lost n) = lost n
+
+abbrev pub told : Option Read → List Event
+told None = []
+told (Some e) = event_of e ∷ []

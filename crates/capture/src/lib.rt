@@ -3,52 +3,48 @@
 
 ghost use Rattle.std.specs.Prelude.{◌≡◌, drop};
 ghost use Rattle.std.proofs.lemmas.List.Edits.{sets};
-ghost use Rattle.store.specs.Chain.{sum_over};
-ghost use Rattle.capture.specs.Capture.{number_bytes, first, size, told};
+ghost use Rattle.capture.specs.Capture.{number_bytes, first, size, event_of, told};
 ghost use Rattle.capture.specs.Skip.{skipped_of};
 
 use octets::{get_i16, get32, pattern_of, put16};
 
 // The pair (-32768, -32768), as the number in its four bytes.
-pub const LOST_MARK: usize = 2147516416;
+pub const LOST_MARK: usize = 0x8000_8000;
 
-// The event at a place of a capture.
+// An event of a capture: a point, or a count of lost intervals.
 #[derive(Clone, Copy)]
-pub enum Next {
+pub enum Event {
     Point(i16, i16),
     Lost(u32),
-    Short,
 }
 
-// The event that begins at byte `at`; `Short` where the bytes end before it does.
-pub fn next_event(input: &[u8], at: usize) -> Next
+impl Event {
+    // How many bytes it has.
+    pub fn size(self) -> usize
+        ensures { result ≡ size (event_of self) }
+    {
+        match self {
+            Event::Point(..) => 4,
+            Event::Lost(_) => 8,
+        }
+    }
+}
+
+// The event that begins at byte `at`; none where the bytes end before it does.
+pub fn next_event(input: &[u8], at: usize) -> Option<Event>
     ensures { told result ≡ first (drop at input.now) }
 {
-    if input.len() <= at {
-        return Next::Short;
-    }
-    let left = input.len() - at;
+    let left = input.len().saturating_sub(at);
     if left < 4 {
-        return Next::Short;
+        return None;
     }
     if get32(input, at) != LOST_MARK {
-        return Next::Point(get_i16(input, at), get_i16(input, at + 2));
+        return Some(Event::Point(get_i16(input, at), get_i16(input, at + 2)));
     }
     if left < 8 {
-        return Next::Short;
+        return None;
     }
-    Next::Lost(get32(input, at + 4) as u32)
-}
-
-// How many bytes the event at byte `at` has, 0 for none.
-fn size_at(input: &[u8], at: usize) -> usize
-    ensures { result ≡ sum_over size (first (drop at input.now)) }
-{
-    match next_event(input, at) {
-        Next::Point(_, _) => 4,
-        Next::Lost(_) => 8,
-        Next::Short => 0,
-    }
+    Some(Event::Lost(get32(input, at + 4) as u32))
 }
 
 // How many events were skipped, and how many bytes they have.
@@ -62,31 +58,26 @@ pub struct Skipped {
 pub fn skip_events(input: &[u8], n: u64) -> Skipped
     ensures { result ≡ skipped_of n input.now }
 {
-    let mut skipped: u64 = 0;
     let mut used = 0;
-    while skipped < n {
-        let more = size_at(input, used);
-        if more == 0 {
+    for skipped in 0..n {
+        let Some(event) = next_event(input, used) else {
             return Skipped { skipped, used };
-        }
-        used += more;
-        skipped += 1;
+        };
+        used += event.size();
     }
-    Skipped { skipped, used }
+    Skipped { skipped: n, used }
 }
 
 // The numbers as bytes at the front of `out`; what does not fit is not written.
 pub fn put_numbers(numbers: &[i16], out: &mut [u8])
     ensures { out.new ≡ sets out.old 0 (number_bytes numbers.now) }
 {
-    let mut k = 0;
     let mut at = 0;
-    while k < numbers.len() {
+    for number in numbers {
         if out.len() <= at {
             return;
         }
-        put16(out, at, pattern_of(numbers[k]));
-        k += 1;
+        put16(out, at, pattern_of(*number));
         at += 2;
     }
 }

@@ -2,157 +2,136 @@
 // went well, else one line, by which the front tells a sentence and a status.
 #![tactic(auto)]
 
-ghost use Rattle.std.specs.Prelude.{◌≡◌, ◌+◌, ◌*◌, ◌<◌, ◌≤◌, min};
+ghost use Rattle.std.specs.Prelude.{◌≡◌, IfOk, OnErr, take};
+ghost use Rattle.std.specs.Counts.{IsPrefixLen};
+ghost use Rattle.console.specs.declared.Stop.TheVariants.{Refused};
 ghost use Rattle.console.specs.Reading.{Behind, Carried};
-ghost use Rattle.console.specs.Words.{most, number};
+ghost use Rattle.console.specs.Words.{number};
 
-use std::io;
+use line::Refusal;
 use std::io::{Cursor, Eprint, Print, Read, Write};
 use std::rt::Env;
+use std::{fmt, io};
+
+// Why a command stops before its work is done: reading or writing failed, or a call was refused, after so many events or bits.
+#[derive(Drop)]
+pub enum Stop {
+    Read(io::Error),
+    Write(io::Error),
+    Refused { refusal: Refusal, after: u64 },
+}
+
+// A call that is refused before any event or bit.
+impl From<Refusal> for Stop {
+    ghost from_gives = { λ refusal stop. stop ≡ Refused refusal 0 };
+
+    fn from(refusal: Refusal) -> Stop {
+        Stop::Refused { refusal, after: 0 }
+    }
+}
 
 // ---- reading
 
-// What a read behind the first bytes of a buffer gives: why it failed, if it did, whether the input has ended, and how many bytes stand at
-// the front of the buffer now.
-#[derive(Drop)]
+// What a read behind the first bytes of a buffer gives: whether the input has ended, and how many bytes stand at the front of the buffer now.
+// `ended` is a flag, since an input's end is no failure, and what came before it counts.
+#[derive(Clone, Copy)]
 pub struct Came {
-    pub failure: Option<io::Error>,
     pub ended: bool,
     pub count: usize,
 }
 
 // One read into `buf` behind its first `have` bytes; where there is no room behind them, none.
-pub fn read_more<R: Read>(input: &mut R, buf: &mut [u8], have: usize) -> Came
-    ensures { Behind have buf.old buf.new result }
+pub fn read_more<R: Read>(input: &mut R, buf: &mut [u8], have: usize) -> Result<Came, Stop>
+    ensures ok { IfOk result (λ came. Behind have buf.old buf.new came) }
+    ensures err { OnErr result ((take have buf.new ≡ take have buf.old) × IsPrefixLen have buf.new) }
 {
     if buf.len() <= have {
-        return Came {
-            failure: None,
+        return Ok(Came {
             ended: false,
             count: buf.len(),
-        };
+        });
     }
     match input.read(&mut buf[have..]) {
-        Ok(n) => Came {
-            failure: None,
+        Ok(n) => Ok(Came {
             ended: n == 0,
             count: have + n,
-        },
-        Err(error) => Came {
-            failure: Some(error),
-            ended: false,
-            count: have,
-        },
+        }),
+        Err(error) => Err(Stop::Read(error)),
     }
 }
 
-// Reads until `buf` is full, the input ends or a read fails.
-pub fn read_whole<R: Read>(input: &mut R, buf: &mut [u8]) -> Came
-    ensures { Behind 0 buf.old buf.new result }
+// Reads until `buf` is full or the input ends; how many bytes came.
+fn read_whole<R: Read>(input: &mut R, buf: &mut [u8]) -> Result<usize, Stop>
+    ensures { IfOk result (λ n. IsPrefixLen n buf.new) }
 {
     let mut have = 0;
+    // No `for`: a turn goes on by as many bytes as came.
     while have < buf.len() {
-        let came = read_more(input, buf, have);
+        let came = read_more(input, buf, have)?;
         if came.count <= have {
-            return came;
+            break;
         }
         have = came.count;
     }
-    Came {
-        failure: None,
-        ended: false,
-        count: have,
-    }
+    Ok(have)
 }
 
-// Reads once more, and answers whether to go on.
-fn skip_some<R: Read>(input: &mut R) -> bool {
-    let mut buf = [0u8; 65536];
-    match input.read(&mut buf) {
-        Ok(n) => 0 < n,
-        Err(_) => false,
-    }
-}
-
-// Reads the rest of the input, which is not kept, so that whoever writes it is not cut off. A proved loop has to end, and nothing says that
-// the input does: the loop counts up to a number that no run comes to.
-pub fn skip_rest<R: Read>(input: &mut R) {
-    for _ in 0..u64::MAX {
-        if !skip_some(input) {
-            return;
+// Takes steps until one answers that the input has ended, or stops; what the last one gave. A proved loop has to end, and nothing says that an
+// input does: this one counts up to a number that no run comes to. What it requires is what any closure that is handed in needs.
+pub fn until_ended<F: FnMut() -> Result<bool, Stop>>(mut step: F) -> Result<bool, Stop>
+    requires { F.IsAlwaysCallable step }
+    ensures { (before after : F) × F.step before result after }
+{
+    let mut given = step();
+    for _ in 1..u64::MAX {
+        match given {
+            Ok(false) => given = step(),
+            last => return last,
         }
     }
+    given
 }
 
-// Reads what `buf` holds, and passes over the rest of the input; says so where reading fails.
-pub fn read_kept<R: Read>(rt: &impl Eprint, input: &mut R, buf: &mut [u8]) -> Came
-    ensures { Behind 0 buf.old buf.new result }
+// Reads the rest of the input, which is not kept, so that whoever writes it is not cut off. That reading it failed is not told.
+fn skip_rest<R: Read>(input: &mut R) {
+    let mut buf = [0u8; 65536];
+    let _ = until_ended(|| Ok(input.read(&mut buf).map_err(Stop::Read)? == 0));
+}
+
+// Reads what `buf` holds, and passes over the rest of the input; how many bytes of `buf` came.
+pub fn read_kept<R: Read>(input: &mut R, buf: &mut [u8]) -> Result<usize, Stop>
+    ensures { IfOk result (λ n. IsPrefixLen n buf.new) }
 {
-    let came = read_whole(input, buf);
-    if let Some(error) = &came.failure {
-        say_failed(rt, error);
-        return came;
-    }
-    if came.count == buf.len() {
+    let count = read_whole(input, buf)?;
+    if count == buf.len() {
         skip_rest(input);
     }
-    came
-}
-
-pub fn lesser(a: usize, b: usize) -> usize
-    ensures { (result ≡ min a b) × (result ≤ a) × (result ≤ b) }
-{
-    if a < b { a } else { b }
+    Ok(count)
 }
 
 // The bytes from `from` to `to` carried to the front, where the next ones are read behind them; how many they are.
 pub fn carry(buf: &mut [u8], from: usize, to: usize) -> usize
     ensures { Carried buf.old from to buf.new result }
 {
-    let end = lesser(to, buf.len());
-    let mut k = 0;
-    let mut i = from;
-    while i < end {
-        buf[k] = buf[i];
-        k += 1;
-        i += 1;
-    }
-    k
+    let end = to.min(buf.len());
+    let start = from.min(end);
+    buf.copy_within(start..end, 0);
+    end - start
 }
 
 // ---- arguments
 
-// A digit more behind a number; never above the greatest u64.
-fn with_digit(n: u64, d: u64) -> u64
-    requires { d < 10 }
-    ensures { result ≡ min (10 * n + d) most }
-{
-    if 1844674407370955161 < n {
-        return u64::MAX;
-    }
-    let tens = 10 * n;
-    if u64::MAX - tens < d {
-        return u64::MAX;
-    }
-    tens + d
-}
-
-// The number that a word of digits says.
+// The number that a word of digits says; never above the greatest u64.
+#[tactic(auto, unfolding(crate::specs::Words::number))]
 pub fn number_of(word: &[u8]) -> u64
     ensures { result ≡ number word.now }
 {
-    let mut n = 0;
-    let mut k = 0;
-    while k < word.len() {
-        let c = word[k];
-        if c < 48 {
+    let mut n: u64 = 0;
+    for c in word {
+        if !c.is_ascii_digit() {
             return n;
         }
-        if 57 < c {
-            return n;
-        }
-        n = with_digit(n, (c - 48) as u64);
-        k += 1;
+        n = n.saturating_mul(10).saturating_add(u64::from(c - b'0'));
     }
     n
 }
@@ -168,83 +147,57 @@ pub fn number_argument(rt: &impl Env, i: usize) -> u64 {
 
 // Argument i as a number of at most 255; a greater one counts as 255, which is no mode and no role.
 pub fn small_argument(rt: &impl Env, i: usize) -> u8 {
-    let n = number_argument(rt, i);
-    if 255 < n {
-        return 255;
-    }
-    n as u8
+    u8::try_from(number_argument(rt, i)).unwrap_or(u8::MAX)
 }
 
 // Argument i as a number of 32 bits; a greater one counts as the greatest.
 pub fn wide_argument(rt: &impl Env, i: usize) -> u32 {
-    let n = number_argument(rt, i);
-    if 4294967295 < n {
-        return 4294967295;
-    }
-    n as u32
-}
-
-// A number as a length in memory.
-pub fn length_of(n: u64) -> usize
-    ensures { result ≡ n }
-{
-    n as usize
+    u32::try_from(number_argument(rt, i)).unwrap_or(u32::MAX)
 }
 
 // ---- writing
 
-// Whether a write to standard output was done; says so where it failed.
-fn is_written(rt: &impl Eprint, written: io::Result<()>) -> bool {
-    match written {
-        Ok(()) => true,
-        Err(error) => {
-            say(rt, "write", &error);
-            false
+// Writes to standard output.
+pub fn emit(rt: &impl Print, bytes: &[u8]) -> Result<(), Stop> {
+    rt.write_all(bytes).map_err(Stop::Write)
+}
+
+// Writes the first n bytes, or all where there are fewer.
+pub fn emit_first(rt: &impl Print, bytes: &[u8], n: usize) -> Result<(), Stop> {
+    emit(rt, &bytes[..n.min(bytes.len())])
+}
+
+// What failed, and the system's words for why, without the number that std puts behind them.
+fn write_why<W: fmt::Write>(
+    f: &mut fmt::Formatter<W>,
+    what: &str,
+    error: &io::Error,
+) -> fmt::Result {
+    let mut words = Cursor::new([0u8; 320]);
+    // Words that do not fit are cut off.
+    let _ = write!(words, "{error}");
+    let n = (words.position() as usize).min(320);
+    let bytes = words.into_inner();
+    let text = std::str::from_utf8(&bytes[..n]).unwrap_or("");
+    let why = text
+        .split_once(" (os error ")
+        .map_or(text, |(front, _)| front);
+    write!(f, "{what}: {why}")
+}
+
+impl fmt::Display for Stop {
+    fn fmt<W: fmt::Write>(&self, f: &mut fmt::Formatter<W>) -> fmt::Result {
+        match self {
+            Stop::Read(error) => write_why(f, "read", error),
+            Stop::Write(error) => write_why(f, "write", error),
+            Stop::Refused { refusal, after } => write!(f, "refused {refusal} after {after}"),
         }
     }
 }
 
-// Writes to standard output, and says so where that fails; whether to go on.
-pub fn emit(rt: &(impl Print + Eprint), bytes: &[u8]) -> bool {
-    is_written(rt, rt.write_all(bytes))
-}
-
-// Writes the first n bytes, or all where there are fewer, likewise.
-pub fn emit_first(rt: &(impl Print + Eprint), bytes: &[u8], n: usize) -> bool {
-    if n < bytes.len() {
-        return emit(rt, &bytes[..n]);
+// Says on standard error why a command stopped, if it did. Nobody is left to tell of a line that standard error did not take.
+pub fn tell(rt: &impl Eprint, done: Result<(), Stop>) {
+    if let Err(stop) = done {
+        let _ = eprintln!(rt; "{stop}");
     }
-    emit(rt, bytes)
-}
-
-// Writes a number in decimal to standard output, likewise.
-pub fn emit_number(rt: &(impl Print + Eprint), n: u64) -> bool {
-    is_written(rt, print!(rt; "{n}"))
-}
-
-// Says that reading failed.
-pub fn say_failed(rt: &impl Eprint, error: &io::Error) {
-    say(rt, "read", error);
-}
-
-// Says that a call was refused with a number, after so many events or bits.
-pub fn say_refused(rt: &impl Eprint, number: u8, after: u64) {
-    unsaid(eprintln!(rt; "refused {number} after {after}"));
-}
-
-// Nobody is left to tell of a line that standard error did not take.
-fn unsaid(_said: io::Result<()>) {}
-
-// One line: what failed, and the system's words for why, without the number that std puts behind them.
-fn say(rt: &impl Eprint, what: &str, error: &io::Error) {
-    let mut words = Cursor::new([0u8; 320]);
-    unsaid(write!(words, "{error}"));
-    let n = lesser(length_of(words.position()), 320);
-    let bytes = words.into_inner();
-    let text = std::str::from_utf8(&bytes[..n]).unwrap_or("");
-    let why = match text.split_once(" (os error ") {
-        Some((front, _)) => front,
-        None => text,
-    };
-    unsaid(eprintln!(rt; "{what}: {why}"));
 }

@@ -14,8 +14,8 @@ use Rattle.line.specs.Table.{every}
 use Rattle.line.specs.Mode.{is_mode, states, is_state, quadrant, next_quadrant, step, turn, turns, quarter_steps}
 use Rattle.line.specs.Point.{at, is_origin, turned, turned_by, sent27, levels32, sent32, sent_point}
 use Rattle.deciding.specs.Decide.{Region, State, Origin, in_first, sector, outer, first, quarters, turned_state, decide_by, decide, turned_answer}
-use Rattle.deciding.specs.declared.Decision.{Decision}
-use Rattle.deciding.specs.declared.Decision.TheVariants.{State as DecidedAs, Origin as AtOrigin}
+use Rattle.std.specs.Prelude.{Option, Some, None}
+use Rattle.deciding.specs.declared.Decided.{Decided}
 use Rattle.deciding.specs.declared.SquaredUnits.{SquaredUnits}
 use Rattle.deciding.specs.Distance.{distance, measured, decision}
 use Rattle.deciding.specs.Sizes.{ring_of, ring_index}
@@ -138,15 +138,18 @@ told : (m : ℕ) (p : Point) → Told m p (decision m p)
 unfolding decision
 told m p = record { state_is = refl; distance_is = distance-told m p (decide m p); lost_is = lost_told m p }
 
+abbrev given : ℕ → ℕ → Option Decided
+given s n = Some (record { state = s; distance = record { 0 = n } })
+
 -- the ways of the code: at the origin, and off it
 module _ (m : ℕ) (re im : ℤ) where
-  both : (d : Region) (r : Decision) → r ≡ measured m (at re im) d → d ≡ decide m (at re im) → (r ≡ decision m (at re im)) × Told m (at re im) r
+  both : (d : Region) (r : Option Decided) → r ≡ measured m (at re im) d → d ≡ decide m (at re im) → (r ≡ decision m (at re im)) × Told m (at re im) r
   unfolding decision
   both d r q e = let s : r ≡ decision m (at re im) = q ∙ ap (measured m (at re im)) e in (s, subst (Told m (at re im)) (sym s) (told m (at re im)))
 
-  pub told_origin : is_origin (at re im) ≡ true → (AtOrigin ≡ decision m (at re im)) × Told m (at re im) AtOrigin
-  told_origin o = both Origin AtOrigin refl (origin_none m re im o)
+  pub told_origin : is_origin (at re im) ≡ true → (None ≡ decision m (at re im)) × Told m (at re im) None
+  told_origin o = both Origin None refl (origin_none m re im o)
 
   pub told_state : (s : ℕ) (d : SquaredUnits) → s ≡ get_or (ring_of m) (ring_index m re im) 0 → d.0 ≡ distance m s (at re im) → is_origin (at re im) ≡ false
-      → (DecidedAs s d ≡ decision m (at re im)) × Told m (at re im) (DecidedAs s d)
-  told_state s d e q o = both (State s) (DecidedAs s d) (ap (λ (n : ℕ). DecidedAs s (record { 0 = n })) q) (looked_up m re im (ring_of m) s refl e o)
+      → (Some (record { state = s; distance = d }) ≡ decision m (at re im)) × Told m (at re im) (Some (record { state = s; distance = d }))
+  told_state s d e q o = both (State s) (Some (record { state = s; distance = d })) (ap (λ (n : ℕ). given s n) q) (looked_up m re im (ring_of m) s refl e o)

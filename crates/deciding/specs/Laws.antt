@@ -1,9 +1,8 @@
 -- What `decide` tells in document 01's and 02's terms, and what holds of it: the statements, whose proofs are in proofs/DecideLaws,
 -- proofs/OneRegion, proofs/SectorLaws, proofs/DistanceLaws and proofs/RangeLaws.
-use Rattle.std.specs.Prelude.{ℕ, ◌<◌, ◌≤◌, ◌≡◌, false, cond, List, [], ◌∷◌, map, ◌↔◌, T, eqb, pos}
+use Rattle.std.specs.Prelude.{ℕ, ◌<◌, ◌≤◌, ◌≡◌, false, cond, List, [], ◌∷◌, map, ◌↔◌, T, eqb, pos, Option, Some, None}
 use Rattle.line.specs.declared.Point.{Point}
-use Rattle.deciding.specs.declared.Decision.{Decision}
-use Rattle.deciding.specs.declared.Decision.TheVariants.{State as DecidedAs, Origin as AtOrigin}
+use Rattle.deciding.specs.declared.Decided.{Decided}
 use Rattle.line.specs.Mode.{is_mode, is_state, turns, quarter_steps}
 use Rattle.line.specs.Point.{at, in_range, is_origin, turned, sent_point}
 use Rattle.deciding.specs.Decide.{State, turned_answer, decide}
@@ -13,21 +12,21 @@ use Rattle.deciding.specs.Distance.{distance, decision}
 -- "where an answer is an enum, a definition gives this paper's number and values for each of the enum's cases"
 
 -- the state, if the point is one
-abbrev pub states_of : Decision → List ℕ
-states_of (DecidedAs s d) = s ∷ []
-states_of AtOrigin = []
+abbrev pub states_of : Option Decided → List ℕ
+states_of (Some d) = d.state ∷ []
+states_of None = []
 
 -- the squared distance to its sent point, in units
-abbrev pub distances_of : Decision → List ℕ
-distances_of (DecidedAs s d) = d.0 ∷ []
-distances_of AtOrigin = []
+abbrev pub distances_of : Option Decided → List ℕ
+distances_of (Some d) = d.distance.0 ∷ []
+distances_of None = []
 
 -- the intervals that are lost: the origin is a gap of one
-abbrev pub lost_of : Decision → ℕ
-lost_of (DecidedAs s d) = 0
-lost_of AtOrigin = 1
+abbrev pub lost_of : Option Decided → ℕ
+lost_of (Some d) = 0
+lost_of None = 1
 
-pub record Told (m : ℕ) (p : Point) (r : Decision) : Type 0 where
+pub record Told (m : ℕ) (p : Point) (r : Option Decided) : Type 0 where
   pub state_is : states_of r ≡ states_of (decision m p)
   pub distance_is : distances_of r ≡ map (λ (s : ℕ). distance m s p) (states_of r)
   pub lost_is : lost_of r ≡ cond (is_origin p) 1 0

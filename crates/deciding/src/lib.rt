@@ -13,11 +13,11 @@ use line::{Point, size};
 #[derive(Clone, Copy)]
 pub struct SquaredUnits(pub u32);
 
-// What a point is decided as: a state, with the squared distance to its sent point. The origin is no state.
+// What a point off the origin is decided as: a state, with the squared distance to its sent point.
 #[derive(Clone, Copy)]
-pub enum Decision {
-    State(u8, SquaredUnits),
-    Origin,
+pub struct Decided {
+    pub state: u8,
+    pub distance: SquaredUnits,
 }
 
 // No sign and no size of a coordinate takes the code another way: it would be guessed wrong half of the time. A test becomes a
@@ -186,13 +186,16 @@ fn distance(mode: u8, s: u8, re: i16, im: i16) -> SquaredUnits
 }
 
 // The state of a point and its distance, for every pair of coordinates.
-pub fn decide(mode: u8, re: i16, im: i16) -> Decision
+pub fn decide(mode: u8, re: i16, im: i16) -> Option<Decided>
     ensures value { result ≡ decision mode (at re im) }
     ensures told { Told mode (at re im) result }
 {
     if is_origin(re, im) {
-        return Decision::Origin;
+        return None;
     }
-    let s = state_of(line::column_of(mode), re, im);
-    Decision::State(s, distance(mode, s, re, im))
+    let state = state_of(line::column_of(mode), re, im);
+    Some(Decided {
+        state,
+        distance: distance(mode, state, re, im),
+    })
 }

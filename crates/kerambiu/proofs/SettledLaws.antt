@@ -28,17 +28,17 @@ module _ (m : ℕ) (line plain out run : List ℕ) where
   ends k n w ks e en ew ek = (en ∙ sym e, rw e ew, rw e ek)
 
   -- fewer than three lent numbers
-  pub run_short : (b : Bool) (n : ℕ) → length run < 3 → b ≡ is_mode m → n ≡ need b 1 7 → Ends n out run
+  pub run_short : (b : Bool) → length run < 3 → b ≡ is_mode m → Ends (need b 1 7) out run
   unfolding run_number run_refusal
-  run_short b n h eb en = go (is_mode m) fits refl (ap (λ (c : Bool). or_next (run_refusal m line plain (length out)) (need c 7 0)) (lt-leb 3 (length run) h))
+  run_short b h eb = go (is_mode m) fits refl (ap (λ (c : Bool). or_next (run_refusal m line plain (length out)) (need c 7 0)) (lt-leb 3 (length run) h))
     where
       fits : Bool
       fits = eqb (length line) (length plain) && leb (length (run_bits (data_of_bytes (width m) line plain))) (length out)
 
-      go : (t x : Bool) → is_mode m ≡ t → run_number m line plain out run ≡ or_next (need t 1 (need x 7 0)) 7 → Ends n out run
-      go false x f e = ends 1 n out run e (en ∙ ap (λ (c : Bool). need c 1 7) (eb ∙ f)) refl refl
-      go true true f e = ends 7 n out run e (en ∙ ap (λ (c : Bool). need c 1 7) (eb ∙ f)) refl refl
-      go true false f e = ends 7 n out run e (en ∙ ap (λ (c : Bool). need c 1 7) (eb ∙ f)) refl refl
+      go : (t x : Bool) → is_mode m ≡ t → run_number m line plain out run ≡ or_next (need t 1 (need x 7 0)) 7 → Ends (need b 1 7) out run
+      go false x f e = ends 1 _ out run e (ap (λ (c : Bool). need c 1 7) (eb ∙ f)) refl refl
+      go true true f e = ends 7 _ out run e (ap (λ (c : Bool). need c 1 7) (eb ∙ f)) refl refl
+      go true false f e = ends 7 _ out run e (ap (λ (c : Bool). need c 1 7) (eb ∙ f)) refl refl
 
   -- what the call gave: its number, the runs that it tells, and the lent bytes
   pub run_given : (n : ℕ) (rs : List Run) (w : List ℕ) → 3 ≤ length run → n ≡ run_refusal m line plain (length out)

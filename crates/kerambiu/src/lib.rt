@@ -21,12 +21,8 @@ ghost use Rattle.kerambiu.specs.Blocks.{whole_number, whole_result, run_number, 
 ghost use Rattle.kerambiu.specs.Counted.{counted_number, counted_out, counted_counts};
 
 use levels::Levels;
-use listing::Listed;
+use line::{Refusal, number_of};
 use readings::Reading;
-use settled::Taken;
-use store::Readout;
-use summing::Summed;
-use v41::{Checked, Made};
 
 // ---- the receiver's calls
 
@@ -35,7 +31,7 @@ use v41::{Checked, Made};
 pub extern "C" fn kerambiu_fresh(state: &mut [u8], mode: u8, role: u8) -> u8
     ensures { (result ≡ fresh_number state.old mode role) × (state.new ≡ fresh_state state.old mode role) }
 {
-    lent_receiver::fresh(state, mode, role)
+    number_of(lent_receiver::fresh(state, mode, role))
 }
 
 // A point: 0, or the number that refuses it.
@@ -48,7 +44,7 @@ pub extern "C" fn kerambiu_receive_point(
 ) -> u8
     ensures { (result ≡ call_number state.old answer.old (point (at re im))) × (state.new ≡ call_state state.old answer.old (point (at re im))) × (answer.new ≡ call_answer state.old answer.old (point (at re im))) }
 {
-    lent_receiver::receive_point(state, re, im, answer)
+    number_of(lent_receiver::receive_point(state, re, im, answer))
 }
 
 // Points, re and im in turn, all or none: 0, or the number that refuses them.
@@ -64,7 +60,7 @@ pub extern "C" fn kerambiu_receive_points(
         × (state.new ≡ block_state state.old (in_units points.now) (parts line.old plain.old distance.old))
         × (parts line.new plain.new distance.new ≡ block_parts state.old (in_units points.now) (parts line.old plain.old distance.old)) }
 {
-    lent_receiver::receive_points(state, points, line, plain, distance)
+    number_of(lent_receiver::receive_points(state, points, line, plain, distance))
 }
 
 // A gap of n intervals: 0, or the number that refuses it.
@@ -72,7 +68,7 @@ pub extern "C" fn kerambiu_receive_points(
 pub extern "C" fn kerambiu_receive_gap(state: &mut [u8], n: u32, answer: &mut [u8]) -> u8
     ensures { (result ≡ call_number state.old answer.old (gap n)) × (state.new ≡ call_state state.old answer.old (gap n)) × (answer.new ≡ call_answer state.old answer.old (gap n)) }
 {
-    lent_receiver::receive_gap(state, n, answer)
+    number_of(lent_receiver::receive_gap(state, n, answer))
 }
 
 // ---- the demodulator's readings
@@ -87,7 +83,7 @@ pub extern "C" fn kerambiu_receive_levels(
 ) -> u8
     ensures { (result ≡ reading_number state.old answer.old (levels (record { re = re; im = im }))) × (state.new ≡ reading_state state.old answer.old (levels (record { re = re; im = im }))) × (answer.new ≡ reading_bytes state.old answer.old (levels (record { re = re; im = im }))) }
 {
-    lent_readings::receive_reading(state, Reading::Point(Levels { re, im }), answer)
+    number_of(lent_readings::receive_reading(state, Reading::Point(Levels { re, im }), answer))
 }
 
 // A squelched interval with its power: 0, or the number that refuses it.
@@ -95,7 +91,7 @@ pub extern "C" fn kerambiu_receive_levels(
 pub extern "C" fn kerambiu_receive_squelch(state: &mut [u8], power: f32, answer: &mut [u8]) -> u8
     ensures { (result ≡ reading_number state.old answer.old (squelch power)) × (state.new ≡ reading_state state.old answer.old (squelch power)) × (answer.new ≡ reading_bytes state.old answer.old (squelch power)) }
 {
-    lent_readings::receive_reading(state, Reading::Squelch(power), answer)
+    number_of(lent_readings::receive_reading(state, Reading::Squelch(power), answer))
 }
 
 // A hole of n intervals: 0, or the number that refuses it.
@@ -103,7 +99,7 @@ pub extern "C" fn kerambiu_receive_squelch(state: &mut [u8], power: f32, answer:
 pub extern "C" fn kerambiu_receive_hole(state: &mut [u8], n: u32, answer: &mut [u8]) -> u8
     ensures { (result ≡ reading_number state.old answer.old (hole n)) × (state.new ≡ reading_state state.old answer.old (hole n)) × (answer.new ≡ reading_bytes state.old answer.old (hole n)) }
 {
-    lent_readings::receive_reading(state, Reading::Hole(n), answer)
+    number_of(lent_readings::receive_reading(state, Reading::Hole(n), answer))
 }
 
 // Points in levels, re and im in turn, all or none: 0, or the number that refuses them.
@@ -119,7 +115,7 @@ pub extern "C" fn kerambiu_receive_level_points(
         × (state.new ≡ block_state state.old (in_levels levels.now) (parts line.old plain.old distance.old))
         × (parts line.new plain.new distance.new ≡ block_parts state.old (in_levels levels.now) (parts line.old plain.old distance.old)) }
 {
-    lent_receiver::receive_levels(state, levels, line, plain, distance)
+    number_of(lent_receiver::receive_levels(state, levels, line, plain, distance))
 }
 
 // ---- the sender's calls
@@ -137,7 +133,7 @@ pub extern "C" fn kerambiu_open(
 ) -> u8
     ensures { (result ≡ open_number state.old mode role length out.old offset) × (state.new ≡ open_state state.old mode role length out.old offset) × (out.new ≡ open_out state.old mode role length out.old offset) }
 {
-    lent_sender::open(state, mode, role, length, out, offset)
+    number_of(lent_sender::open(state, mode, role, length, out, offset))
 }
 
 // Sends data bits, one in a byte: their points stand in `out` from `offset` on. 0, or the number that refuses it.
@@ -150,7 +146,7 @@ pub extern "C" fn kerambiu_send(
 ) -> u8
     ensures { (result ≡ send_number state.old input.now out.old offset) × (state.new ≡ send_state state.old input.now out.old offset) × (out.new ≡ send_out state.old input.now out.old offset) }
 {
-    lent_sender::send(state, input, out, offset)
+    number_of(lent_sender::send(state, input, out, offset))
 }
 
 // ---- the track store's calls
@@ -159,28 +155,28 @@ pub extern "C" fn kerambiu_send(
 pub extern "C" fn kerambiu_make(store: &mut [u8], mode: u8, role: u8) -> u8
     ensures { (result ≡ make_number store.old mode role) × (store.new ≡ make_result store.old mode role) }
 {
-    track::make(store, mode, role)
+    number_of(track::make(store, mode, role))
 }
 
 #[unsafe(no_mangle)]
 pub extern "C" fn kerambiu_append_point(store: &mut [u8], re: i16, im: i16) -> u8
     ensures { (result ≡ point_number store.old (at re im)) × (store.new ≡ point_result store.old (at re im)) }
 {
-    track::append_point(store, re, im)
+    number_of(track::append_point(store, re, im))
 }
 
 #[unsafe(no_mangle)]
 pub extern "C" fn kerambiu_append_lost(store: &mut [u8], n: u32) -> u8
     ensures { (result ≡ lost_number store.old n) × (store.new ≡ lost_result store.old n) }
 {
-    track::append_lost(store, n)
+    number_of(track::append_lost(store, n))
 }
 
 #[unsafe(no_mangle)]
 pub extern "C" fn kerambiu_append_points(store: &mut [u8], points: &[i16]) -> u8
     ensures { (result ≡ points_number store.old points.now) × (store.new ≡ points_result store.old points.now) }
 {
-    track::append_points(store, points)
+    number_of(track::append_points(store, points))
 }
 
 // Reads all events, three numbers for each, into `out` from `offset` on, and how many there are into `count`: 0, or the number
@@ -197,13 +193,12 @@ pub extern "C" fn kerambiu_read(
     if count.len() < 1 {
         return 7;
     }
-    let reading = track::read(store, out, offset);
-    match reading {
-        Readout::Refused(number) => number,
-        Readout::Events(events) => {
+    match track::read(store, out, offset) {
+        Ok(events) => {
             count[0] = events;
             0
         }
+        Err(refusal) => refusal.number(),
     }
 }
 
@@ -215,13 +210,12 @@ pub extern "C" fn kerambiu_list(store: &[u8], out: &mut [u8], count: &mut [usize
     if count.len() < 1 {
         return 7;
     }
-    let listed = listing::list(store, out);
-    match listed {
-        Listed::Refused(number) => number,
-        Listed::Written(bytes) => {
+    match listing::list(store, out) {
+        Ok(bytes) => {
             count[0] = bytes;
             0
         }
+        Err(refusal) => refusal.number(),
     }
 }
 
@@ -233,15 +227,14 @@ pub extern "C" fn kerambiu_sums(store: &[u8], sums: &mut [u64]) -> u8
     if sums.len() < 3 {
         return 7;
     }
-    let summed = listing::sums(store);
-    match summed {
-        Summed::Refused(number) => number,
-        Summed::Sums(v) => {
+    match listing::sums(store) {
+        Ok(v) => {
             sums[0] = v.points;
             sums[1] = v.lost;
             sums[2] = v.gaps;
             0
         }
+        Err(refusal) => refusal.number(),
     }
 }
 
@@ -260,17 +253,16 @@ pub extern "C" fn kerambiu_settled_bits(
     ensures { (result ≡ run_number mode line.now plain.now out.old run.old) × (out.new ≡ run_out mode line.now plain.now out.old run.old) × (run.new ≡ run_result mode line.now plain.now out.old run.old) }
 {
     if run.len() < 3 {
-        return line::need(line::mode_ok(mode), 1, 7);
+        return if line::mode_ok(mode) { 7 } else { 1 };
     }
-    let taken = settled::settled_bits(mode, line, plain, out);
-    match taken {
-        Taken::Refused(number) => number,
-        Taken::Found(found) => {
+    match settled::settled_bits(mode, line, plain, out) {
+        Ok(found) => {
             run[0] = found.first;
             run[1] = found.points;
             run[2] = found.bits;
             0
         }
+        Err(refusal) => refusal.number(),
     }
 }
 
@@ -279,7 +271,7 @@ fn tell_whole(whole: &mut [u8], accepted: u8) -> u8
     ensures { (result ≡ need (leb 1 (size whole.old)) 7 0) × (whole.new ≡ sets whole.old 0 (accepted ∷ [])) }
 {
     octets::put8(whole, 0, accepted);
-    line::need(1 <= whole.len(), 7, 0)
+    number_of(line::need(1 <= whole.len(), Refusal::Lent))
 }
 
 // Checks a block, and writes 1 for an accepted one or 0 into the first of the lent bytes: 0, or the number that refuses it.
@@ -287,11 +279,9 @@ fn tell_whole(whole: &mut [u8], accepted: u8) -> u8
 pub extern "C" fn kerambiu_v41_check(bits: &[u8], whole: &mut [u8]) -> u8
     ensures { (result ≡ whole_number bits.now whole.old) × (whole.new ≡ whole_result bits.now whole.old) }
 {
-    let checked = v41::check(bits);
-    match checked {
-        Checked::Refused(number) => number,
-        Checked::Whole => tell_whole(whole, 1),
-        Checked::Broken => tell_whole(whole, 0),
+    match v41::check(bits) {
+        Ok(accepted) => tell_whole(whole, u8::from(accepted)),
+        Err(refusal) => refusal.number(),
     }
 }
 
@@ -300,9 +290,8 @@ pub extern "C" fn kerambiu_v41_check(bits: &[u8], whole: &mut [u8]) -> u8
 pub extern "C" fn kerambiu_v41_make(bits: &[u8], out: &mut [u8]) -> u8
     ensures { (result ≡ make_refusal bits.now (size out.old)) × (out.new ≡ make_bytes bits.now out.old) }
 {
-    let made = v41::make(bits, out);
-    match made {
-        Made::Refused(number) => number,
-        Made::Written(_) => 0,
+    match v41::make(bits, out) {
+        Ok(_) => 0,
+        Err(refusal) => refusal.number(),
     }
 }

@@ -1,5 +1,5 @@
 -- A state written into lent bytes is read back, and the number of a call that makes one, whichever call it is. Assumes nothing.
-use Prim.Native.Nat.{ℕ, zero, suc, ◌+◌, ◌≤◌, ◌<◌}
+use Prim.Native.Nat.{ℕ, zero, suc, ◌+◌, ◌/◌, ◌%◌, ◌≤◌, ◌<◌}
 use mathlib.Core.Path.{◌≡◌, refl, ap, ◌∙◌}
 use mathlib.Core.Bool.{true}
 use mathlib.Core.List.{List}
@@ -8,11 +8,21 @@ use borrow.Author.Tests.{le-leb, lt-leb}
 use lib.ListN.{length, get_or}
 use lib.Seq.{sets}
 use Rattle.line.specs.Refusal.{or_next, accepted}
-use Rattle.octets.specs.Number.{u32}
+use Rattle.octets.specs.Number.{u32, le32}
+use Rattle.std.specs.Int.{w32, to_le_bytes}
 use Rattle.octets.proofs.Numbers.{quarters}
 use Rattle.line.proofs.Sets.{get_d_sets_in}
 use Rattle.scrambler.specs.declared.Register.{Register}
 use Rattle.lent.specs.State.{register_in, clear, state_out, making_number}
+
+-- THE FOUR BYTES OF A NUMBER, as std writes them
+
+pub le_word : (n : ℕ) → to_le_bytes w32 n ≡ le32 n
+le_word n =
+    let a : n % 256 ≡ n % 65536 % 256 = omega arith in
+    let b : n / 256 % 256 ≡ n % 65536 / 256 % 256 = omega arith in
+    let d : n / 16777216 % 256 ≡ n / 65536 / 256 % 256 = omega arith in
+    rw (← a, ← b, ← d)
 
 -- READ BACK
 

@@ -4,20 +4,22 @@ use mathlib.Core.Path.{◌≡◌, refl, sym, ap, ap₂, ◌∙◌}
 use mathlib.Core.Bool.{Bool, true, false, ◌&&◌, cond}
 use mathlib.Core.List.{List}
 use native.Mathlib.Omega.{arith}
-use lib.Dec.{leb, lit≤}
+use lib.Dec.{lit≤}
 use lib.ListN.{length}
 use lib.Seq.{sets}
 use borrow.Author.Tests.{le-leb, lt-leb}
 use Rattle.line.specs.declared.Point.{Point}
 use Rattle.line.specs.Mode.{is_mode, is_role}
-use Rattle.line.specs.Refusal.{need, or_next, accepted, mode_refusal}
+use Rattle.std.specs.Prelude.{Result, Ok, Err}
+use Rattle.line.specs.declared.refusal.Refusal.{Refusal}
+use Rattle.line.specs.Refusal.{number, need, or_next, accepted, mode_refusal}
 use Rattle.receiver.specs.declared.Receiver.{Receiver}
 use Rattle.receiver.specs.declared.Outcome.{Outcome}
 use Rattle.receiver.specs.Receiver.{Event, point, gap, fields_ok, state_refusal, refusal, next}
 use Rattle.receiver.specs.Outcome.{outcome}
 use Rattle.readings.specs.declared.Reading.{Reading}
 use Rattle.readings.specs.declared.Units.{Units}
-use Rattle.readings.specs.declared.Units.TheVariants.{Refused as NotTaken, Point as InUnits, Gap}
+use Rattle.readings.specs.declared.Units.TheVariants.{Point as InUnits, Gap}
 use Rattle.readings.specs.Reading.{event_of, is_number, reading_refusal, reading_next, reading_outcome, in_units}
 use Rattle.readings.proofs.ReadingLaws.{finite_refusal, finite_outcome, finite_next, refused_units, point_units, gap_units}
 use Rattle.lent.specs.State.{holds_state}
@@ -58,15 +60,16 @@ never a b k n l h x y = ap (λ (i : ℕ). accepted i x y) (sym (in_order a b k n
 
 -- AS THE CODE HAS IT
 
-module _ (state answer : List ℕ) (r : Reading) (u : Units) (e : u ≡ in_units r) where
+module _ (state answer : List ℕ) (r : Reading) (u : Result Units Refusal) (e : u ≡ in_units r) where
   abbrev there : Receiver
   there = receiver_in state
 
   -- refused after the state's numbers
-  pub refused_done : (k n : ℕ) → u ≡ NotTaken k → n ≡ refused_number state (length answer) k → Done state answer r n state answer
+  pub refused_done : (f : Refusal) (n : ℕ) → u ≡ Err f → n ≡ refused_number state (length answer) (number f) → Done state answer r n state answer
   unfolding reading_number reading_state reading_bytes refused_number state_number
-  refused_done k n q z =
-      let w = refused_units there r u e k q in
+  refused_done f n q z =
+      let k : ℕ = number f in
+      let w = refused_units there r u e f q in
       let past : (a b : List ℕ) → accepted (lent_number state answer (reading_refusal there r)) a b ≡ b =
       λ a b. ap (λ (i : ℕ). accepted (lent_number state answer i) a b) w.0 ∙ never (holds_state state) (holds_answer answer) (state_refusal there) k (state_small there) w.1 a b in (
         z ∙ in_order (holds_state state) (holds_answer answer) (state_refusal there) k (state_small there) w.1 ∙ ap (lent_number state answer) (sym w.0),
@@ -81,15 +84,11 @@ module _ (state answer : List ℕ) (r : Reading) (u : Units) (e : u ≡ in_units
       let same : refusal there d ≡ reading_refusal there r = ap (refusal there) (sym w.1) ∙ sym (finite_refusal there r w.0) in (
         z.0 ∙ ap (lent_number state answer) same,
         z.1 ∙ ap₂ (λ (i : ℕ) (s : Receiver). accepted (lent_number state answer i) (sets state 0 (receiver_out s)) state) same (ap (next there) (sym w.1) ∙ sym (finite_next there r w.0)),
-        z.2 ∙ ap₂ (λ (i : ℕ) (o : Outcome). accepted (lent_number state answer i) (sets answer 0 (answer_out o)) answer) same (ap (outcome there) (sym w.1) ∙ sym (finite_outcome there r w.0)),
+        z.2 ∙ ap₂ (λ (i : ℕ) (o : Result Outcome Refusal). accepted (lent_number state answer i) (sets answer 0 (answer_out o)) answer) same (ap (outcome there) (sym w.1) ∙ sym (finite_outcome there r w.0)),
       )
 
-  pub gap_done : (m n : ℕ) (st an : List ℕ) → u ≡ Gap m → (n ≡ call_number state answer (gap m)) × (st ≡ call_state state answer (gap m)) × (an ≡ call_answer state answer (gap m)) → Done state answer r n st an
+  pub gap_done : (m n : ℕ) (st an : List ℕ) → u ≡ Ok (Gap m) → (n ≡ call_number state answer (gap m)) × (st ≡ call_state state answer (gap m)) × (an ≡ call_answer state answer (gap m)) → Done state answer r n st an
   gap_done m n st an q z = event_done (gap m) (gap_units there r u e m q) n st an z
 
-  pub point_done : (p : Point) (n : ℕ) (st an : List ℕ) → u ≡ InUnits p → (n ≡ call_number state answer (point p)) × (st ≡ call_state state answer (point p)) × (an ≡ call_answer state answer (point p)) → Done state answer r n st an
+  pub point_done : (p : Point) (n : ℕ) (st an : List ℕ) → u ≡ Ok (InUnits p) → (n ≡ call_number state answer (point p)) × (st ≡ call_state state answer (point p)) × (an ≡ call_answer state answer (point p)) → Done state answer r n st an
   point_done p n st an q z = event_done (point p) (point_units there r u e p q) n st an z
-
-pub found : (state : List ℕ) (answer k late fault n : ℕ) → late ≡ need (leb 12 answer) 7 k → fault ≡ state_number state → n ≡ or_next fault late → n ≡ refused_number state answer k
-unfolding refused_number
-found state answer k late fault n p q z = rw (z, q, p)

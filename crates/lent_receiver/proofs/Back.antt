@@ -3,8 +3,8 @@ use Prim.Native.Nat.{ℕ}
 use mathlib.Core.Path.{◌≡◌}
 use mathlib.Core.List.{List}
 use Rattle.scrambler.specs.declared.Register.{Register}
-use Rattle.receiver.specs.declared.Reference.{Reference}
-use Rattle.receiver.specs.declared.Reference.TheVariants.{Nothing as none, State as some}
+use Rattle.receiver.specs.Reference.{Reference}
+use Rattle.std.specs.Prelude.{None as none, Some as some}
 use Rattle.receiver.specs.Receiver.{receiver}
 use Rattle.lent.proofs.StateLaws.{Reads, state_back}
 use Rattle.lent_receiver.specs.Receiving.{reference_in, receiver_in, present, state_byte, receiver_out, ReadsBack}

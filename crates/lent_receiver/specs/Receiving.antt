@@ -2,15 +2,15 @@
 --   state   as lent/specs/State says, with 2 whether there is a reference (0 or 1), 3 the reference (0 without one), 12 the place
 --   answer  0 kind (0 reference, 1 bits, 2 gap), 1 line bits, 2 data bits, 3 how many of these are unsettled, 4 the gap (u32),
 --           8 the squared distance (u32; document 02, R-1), 0 for a gap
-use Rattle.std.specs.Prelude.{ℕ, ◌<◌, ◌≤◌, ◌≡◌, Bool, ◌&&◌, cond, List, [], ◌∷◌, ◌++◌, map, leb, ltb, eqb, length, get_or}
+use Rattle.std.specs.Prelude.{ℕ, ◌<◌, ◌≤◌, ◌≡◌, Bool, ◌&&◌, cond, List, [], ◌∷◌, ◌++◌, map, leb, ltb, eqb, length, get_or, Some, None, Result, Ok, Err}
 use Rattle.std.proofs.lemmas.List.Edits.{sets}
+use Rattle.line.specs.declared.refusal.Refusal.{Refusal}
 use Rattle.line.specs.Refusal.{need, accepted, mode_refusal}
 use Rattle.octets.specs.Number.{u32, le32}
-use Rattle.receiver.specs.declared.Reference.{Reference}
-use Rattle.receiver.specs.declared.Reference.TheVariants.{Nothing, State}
+use Rattle.receiver.specs.Reference.{Reference}
 use Rattle.receiver.specs.declared.Receiver.{Receiver}
 use Rattle.receiver.specs.declared.Outcome.{Outcome}
-use Rattle.receiver.specs.declared.Outcome.TheVariants.{Refused, Referenced, Bits, Gap}
+use Rattle.receiver.specs.declared.Outcome.TheVariants.{Referenced, Bits, Gap}
 use Rattle.receiver.specs.Receiver.{Event, point, receiver, fresh_receiver, state_refusal, refusal, next}
 use Rattle.receiver.specs.Outcome.{outcome}
 use Rattle.receiver.specs.Calls.{after}
@@ -23,19 +23,19 @@ use Rattle.lent.specs.State.{register_in, clear, state_out, holds_state, making_
 -- is judged with the register
 unfoldable pub reference_in : List ℕ → Reference
 reference_in s =
-    cond (clear s && eqb (get_or s 2 0) 1) (State (get_or s 3 0))
-    (cond (clear s && (eqb (get_or s 2 0) 0 && eqb (get_or s 3 0) 0)) Nothing (State 255))
+    cond (clear s && eqb (get_or s 2 0) 1) (Some (get_or s 3 0))
+    (cond (clear s && (eqb (get_or s 2 0) 0 && eqb (get_or s 3 0) 0)) None (Some 255))
 
 unfoldable pub receiver_in : List ℕ → Receiver
 receiver_in s = receiver (get_or s 0 0) (get_or s 1 0) (reference_in s) (register_in s) (u32 s 12)
 
 abbrev pub present : Reference → ℕ
-present Nothing = 0
-present (State x) = 1
+present None = 0
+present (Some x) = 1
 
 abbrev pub state_byte : Reference → ℕ
-state_byte Nothing = 0
-state_byte (State x) = x
+state_byte None = 0
+state_byte (Some x) = x
 
 unfoldable pub receiver_out : Receiver → List ℕ
 receiver_out s = state_out s.mode s.role (present s.reference) (state_byte s.reference) s.line s.place.0
@@ -52,11 +52,11 @@ unfoldable pub answer_bytes : ℕ → ℕ → ℕ → ℕ → ℕ → ℕ → Li
 answer_bytes kind line plain unsettled n d = (kind ∷ line ∷ plain ∷ unsettled ∷ []) ++ (le32 n ++ le32 d)
 
 -- a refusal gives its number alone
-abbrev pub answer_out : Outcome → List ℕ
-answer_out (Refused n) = []
-answer_out (Referenced d t) = answer_bytes 0 0 0 0 0 d.0
-answer_out (Bits g d t) = answer_bytes 1 g.line g.plain g.unsettled.0 0 d.0
-answer_out (Gap n t) = answer_bytes 2 0 0 0 n.0 0
+abbrev pub answer_out : Result Outcome Refusal → List ℕ
+answer_out (Err e) = []
+answer_out (Ok (Referenced d t)) = answer_bytes 0 0 0 0 0 d.0
+answer_out (Ok (Bits g d t)) = answer_bytes 1 g.line g.plain g.unsettled.0 0 d.0
+answer_out (Ok (Gap n t)) = answer_bytes 2 0 0 0 n.0 0
 
 -- THE CALLS
 

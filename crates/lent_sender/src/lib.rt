@@ -2,13 +2,14 @@
 #![tactic(auto)]
 
 ghost use Rattle.std.specs.Prelude.{◌≡◌, get_or};
-ghost use Rattle.sender.specs.Sender.{number_of};
+ghost use Rattle.line.specs.Refusal.{numbered};
 ghost use Rattle.lent_sender.specs.Sending.{sent_reference, sender_in, sender_out, open_number, open_state, open_out, send_number, send_state, send_out};
 ghost use Rattle.lent_sender.specs.Putting.{sent_state};
 
+use line::Refusal;
 use octets::{get8, get32, put_all};
 use scrambler::{BitCount, Register};
-use sender::{Sender, Sent};
+use sender::Sender;
 
 // ---- a state's bytes
 
@@ -46,16 +47,16 @@ fn load_sender(s: &[u8]) -> Sender
 fn sender_bytes(s: Sender) -> [u8; 16]
     ensures { result ≡ sender_out s }
 {
-    let bits = s.line.bits;
+    let [b4, b5, b6, b7] = s.line.bits.to_le_bytes();
     [
         s.mode,
         s.role,
         s.reference,
         0,
-        (bits % 65536 % 256) as u8,
-        (bits % 65536 / 256 % 256) as u8,
-        (bits / 65536 % 256) as u8,
-        (bits / 65536 / 256 % 256) as u8,
+        b4,
+        b5,
+        b6,
+        b7,
         s.line.held.0,
         s.line.count.0,
         0,
@@ -67,39 +68,43 @@ fn sender_bytes(s: Sender) -> [u8; 16]
     ]
 }
 
-// Writes the state that a call hands back: 0, or the number that refuses the call.
-fn put_sent(state: &mut [u8], sent: Sent) -> u8
-    ensures { (result ≡ number_of sent) × (state.new ≡ sent_state sent state.old) }
+// Writes the state that a call hands back, unless the call is refused.
+fn put_sent(state: &mut [u8], sent: Result<Sender, Refusal>) -> Result<(), Refusal>
+    ensures { (numbered result ≡ numbered sent) × (state.new ≡ sent_state sent state.old) }
 {
-    match sent {
-        Sent::Refused(n) => n,
-        Sent::Ready(s) => {
-            put_all(state, 0, &sender_bytes(s));
-            0
-        }
-    }
+    let s = sent?;
+    put_all(state, 0, &sender_bytes(s));
+    Ok(())
 }
 
 // ---- the calls
 
-// Opens a sender: its training stands in `out` from `offset` on. 0, or the number that refuses it.
-pub fn open(state: &mut [u8], mode: u8, role: u8, length: u32, out: &mut [i16], offset: usize) -> u8
-    ensures { (result ≡ open_number state.old mode role length out.old offset) × (state.new ≡ open_state state.old mode role length out.old offset) × (out.new ≡ open_out state.old mode role length out.old offset) }
+// Opens a sender: its training stands in `out` from `offset` on.
+pub fn open(
+    state: &mut [u8],
+    mode: u8,
+    role: u8,
+    length: u32,
+    out: &mut [i16],
+    offset: usize,
+) -> Result<(), Refusal>
+    ensures { (numbered result ≡ open_number state.old mode role length out.old offset) × (state.new ≡ open_state state.old mode role length out.old offset) × (out.new ≡ open_out state.old mode role length out.old offset) }
 {
     if state.len() < 16 {
-        let n = sender::open_refusal(mode, role, length, out.len(), offset);
-        return line::or_next(n, 7);
+        let fault = sender::open_refusal(mode, role, length, out.len(), offset);
+        return line::or_next(fault, Err(Refusal::Lent));
     }
     let sent = sender::open(mode, role, length, out, offset);
     put_sent(state, sent)
 }
 
-// Sends data bits, one in a byte: their points stand in `out` from `offset` on. 0, or the number that refuses it.
-pub fn send(state: &mut [u8], input: &[u8], out: &mut [i16], offset: usize) -> u8
-    ensures { (result ≡ send_number state.old input.now out.old offset) × (state.new ≡ send_state state.old input.now out.old offset) × (out.new ≡ send_out state.old input.now out.old offset) }
+// Sends data bits, one in a byte: their points stand in `out` from `offset` on.
+pub fn send(state: &mut [u8], input: &[u8], out: &mut [i16], offset: usize) -> Result<(), Refusal>
+    ensures { (numbered result ≡ send_number state.old input.now out.old offset) × (state.new ≡ send_state state.old input.now out.old offset) × (out.new ≡ send_out state.old input.now out.old offset) }
 {
     if state.len() < 16 {
-        return line::need(bits::are_bits(input), 5, 7);
+        let fault = line::need(bits::are_bits(input), Refusal::Bit);
+        return line::or_next(fault, Err(Refusal::Lent));
     }
     let sent = sender::send(load_sender(state), input, out, offset);
     put_sent(state, sent)

@@ -17,6 +17,7 @@ use lib.Ieee.Exact.{HasValue, odd_sign}
 use mir.Syntax.{w32}
 use mir.Val.{to_z}
 use mir.Facts.{to_z_pos}
+use Rattle.std.specs.Float.{float_is_finite}
 use Rattle.line.specs.Point.{coordinate_in}
 use Rattle.line.proofs.Tests.{lt_or_ge}
 use Rattle.line.proofs.TableLaws.{is_true, and_left, and_right}
@@ -25,19 +26,14 @@ use Rattle.levels.specs.Fields.{magnitude, size_of}
 use Rattle.levels.proofs.NearestLaws.{closest_tiny, rounds_in_fewer, within_half}
 use Rattle.levels.proofs.SignLaws.{sign_abs}
 
--- A TEST FOR A NAN
+-- THE TEST OF A NUMBER
 
-never : true ≡ false → ⊥
-never p = let z : ◌≡◌ {A = ℕ} 1 0 = ap (λ (x : Bool). cond x 1 0) p in omega arith
-
-pub number : (v : Float) → ne v v ≡ false → T (not (is_nan v))
-unfolding is_nan
-number nan e = absurd (never (sym nan_differs ∙ e))
-number (inf s) e = tt
-number (fin s m e') e = tt
-
-pub no_number : (v : Float) → ne v v ≡ true → v ≡ nan
-no_number v e = differs_from_itself v (subst T (sym e) tt)
+-- the library's test of a float is the one of the definitions
+pub finite_law : (v : Float) → float_is_finite v ≡ is_finite v
+unfolding float_is_finite is_finite
+finite_law nan = refl
+finite_law (inf s) = refl
+finite_law (fin s m e) = refl
 
 -- THE SIZE IN UNITS, BY THE FIELDS
 
@@ -168,21 +164,6 @@ of_fields_lem s (suc x) t h =
     chosen (eqb (suc x) 255) (eqb t 0) s (odd 24 s (8388608 + t) x 149) _
     (value_of (odd 24 s (8388608 + t) x 149) s ((8388608 + t) * 2 ^ x) (odd_sign 24 s (8388608 + t) x 149)) h
 
-finite_odd : (d : ℕ) (s : Bool) (q k l : ℕ) → is_finite (odd d s q k l) ≡ true
-unfolding odd is_finite
-finite_odd d s zero k l = refl
-finite_odd d s (suc q) k l = refl
-
-finite_fields : (s : Bool) (x t : ℕ) → is_finite (of_fields binary32 s x t) ≡ not (eqb x 255)
-unfolding of_fields is_finite
-finite_fields s zero t = finite_odd 24 s t 0 149
-finite_fields s (suc x) t = by (eqb (suc x) 255) (eqb t 0)
-  where
-    by : (c d : Bool) → is_finite (cond c (cond d (inf s) nan) (odd 24 s (8388608 + t) x 149)) ≡ not c
-    by true true = refl
-    by true false = refl
-    by false d = finite_odd 24 s (8388608 + t) x 149
-
 -- OF A VALUE, FROM ITS BITS
 
 pub reach_finite : (v : Float) → T (in_reach v) → is_finite v ≡ true
@@ -201,12 +182,6 @@ module _ (v : Float) (f : T (fits binary32 v)) where
 
   abbrev rest : ℕ
   rest = pattern % 8388608
-
-  pub finite_law : (x : ℕ) → x ≡ pattern % 2147483648 / 8388608 → not (eqb x 255) ≡ is_finite v
-  unfolding of_bits
-  finite_law x p =
-      ap (λ (n : ℕ). not (eqb n 255)) p ∙ sym (finite_fields (leb 2147483648 pattern) (pattern % 2147483648 / 8388608) rest)
-      ∙ ap is_finite (of_bits-to_bits binary32 v f)
 
   module _ (r : T (in_reach v)) where
     -- the size's fields, from the pattern without its sign

@@ -22,21 +22,12 @@ pub fn turn(p: Levels) -> Levels
     }
 }
 
-// The exponent's field of a bit pattern.
-fn exponent(b: u32) -> u32
-    ensures { (result ≡ b % 2147483648 / 8388608) × (result < 256) }
-{
-    b % 2147483648 / 8388608
-}
-
 // Whether a number of a reading is one: no NaN and no infinity.
+#[tactic(auto, using(crate::proofs::FieldLaws::finite_law))]
 pub fn is_finite(v: f32) -> bool
     ensures { result ≡ is_finite v }
 {
-    if v != v {
-        return false;
-    }
-    exponent(f32::to_bits(v)) != 255
+    v.is_finite()
 }
 
 // Whether neither number 18 nor number 8 refuses a coordinate: 16384.5 units, which tie to 16384, are the most.
@@ -46,15 +37,13 @@ pub fn in_reach(v: f32) -> bool
     (-16.00048828125 <= v) & (v <= 16.00048828125)
 }
 
-// Whether none of many does. All are looked at, since nearly always none is refused.
+// Whether none of many does. All are looked at, since nearly always none is refused. (Why the loop stands twice: `line::all_in_range`.)
 pub fn all_in_reach(levels: &[f32]) -> bool
     ensures { result ≡ every in_reach levels.now }
 {
     let mut all = true;
-    let mut k = 0;
-    while k < levels.len() {
-        all = all & in_reach(levels[k]);
-        k += 1;
+    for x in levels {
+        all &= in_reach(*x);
     }
     all
 }
@@ -64,10 +53,8 @@ pub fn all_finite(levels: &[f32]) -> bool
     ensures { result ≡ every is_finite levels.now }
 {
     let mut all = true;
-    let mut k = 0;
-    while k < levels.len() {
-        all = all & is_finite(levels[k]);
-        k += 1;
+    for x in levels {
+        all &= is_finite(*x);
     }
     all
 }

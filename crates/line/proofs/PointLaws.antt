@@ -2,13 +2,14 @@
 use mathlib.Core.Path.{◌≡◌, refl, sym, ap, ap₂, ◌∙◌}
 use mathlib.Core.Bool.{◌&&◌, and-true}
 use mathlib.Core.List.{List, [], ◌∷◌, ◌++◌}
-use Prim.Native.Nat.{ℕ, zero, suc, ◌+◌, ◌*◌, ◌/◌, ◌%◌, ◌≤◌, ◌<◌}
+use Prim.Native.Nat.{ℕ, zero, suc, ◌+◌, ◌-◌, ◌*◌, ◌/◌, ◌%◌, ◌≤◌, ◌<◌}
 use native.Mathlib.Omega.{arith}
+use native.Mathlib.Decide.{dec_lt}
 use lib.Dec.{leb, leb-suc-suc}
 use lib.IntN.{ℤ, pos, negsuc}
 use lib.Signed.{le_z}
-use lib.ListN.{length, get_or, take, drop, length-drop}
-use lib.Seq.{drop-cons}
+use lib.ListN.{length, get_or, take, drop, length-drop, get_or-append}
+use lib.Seq.{drop-cons, get_or-append_right}
 use Rattle.line.specs.declared.Point.{Point}
 use Rattle.line.specs.Table.{Tabled}
 use Rattle.line.specs.Mode.{column, by_mode}
@@ -60,6 +61,17 @@ sent_round m s =
 pub short_point : (m k s : ℕ) → k ≡ column m → k ≤ 2 → get_or sent27 (s % 8) (at (pos 0) (pos 0)) ≡ sent_point m s
 unfolding sent_point
 short_point m k s e h = mode_short _ _ m k e h
+
+pub short_points : (m k : ℕ) → k ≡ column m → k ≤ 2 → Tabled 16 (sent_point m) (at (pos 0) (pos 0)) (sent27 ++ sent27)
+unfolding sent27
+short_points m k e h = record { size = refl; at = λ i l. twice i (dec_lt i 8) l ∙ short_point m k i e h }
+  where
+    none : Point
+    none = at (pos 0) (pos 0)
+
+    twice : (i : ℕ) → Dec (i < 8) → i < 16 → get_or (sent27 ++ sent27) i none ≡ get_or sent27 (i % 8) none
+    twice i (yes p) l = get_or-append sent27 sent27 none i p ∙ ap (λ (j : ℕ). get_or sent27 j none) (let q : i ≡ i % 8 = omega arith in q)
+    twice i (no p) l = get_or-append_right sent27 sent27 i none (omega (arith, p)) ∙ ap (λ (j : ℕ). get_or sent27 j none) (let q : i - 8 ≡ i % 8 = omega (arith, p) in q)
 
 pub long_points : (m k : ℕ) → k ≡ column m → 2 < k → Tabled 16 (sent_point m) (at (pos 0) (pos 0)) sent32
 unfolding sent_point

@@ -1,13 +1,89 @@
 -- What no refusal says of the needs. Assumes nothing.
 use Prim.Native.Nat.{ℕ, zero, suc, ◌<◌}
-use mathlib.Core.Path.{◌≡◌, refl, ap, ◌∙◌}
+use mathlib.Core.Path.{◌≡◌, refl, sym, ap, ◌∙◌}
 use mathlib.Core.Bool.{Bool, true, false}
 use mathlib.Core.List.{[], ◌∷◌}
 use native.Mathlib.Omega.{arith}
 use lib.Dec.{T}
 use lib.ListN.{length}
 use Rattle.line.specs.Mode.{is_mode, is_role}
-use Rattle.line.specs.Refusal.{need, or_next, accepted, mode_refusal}
+use Rattle.std.specs.Prelude.{Ok, Err}
+use Rattle.line.specs.declared.refusal.Refusal.{Refusal}
+use Rattle.line.specs.declared.refusal.Refusal.TheVariants.{Mode, Role, TrainingLength, State, Bit, BitCount, Lent, Coordinate, NoIntervals, StoreSize, StoreHead, StoreIndex, StoreRecord, StoreTotal, Intervals, StoreFull, NotFinite, BlockSize}
+use Rattle.line.specs.Refusal.{number, named, numbered, answered, need, or_next, accepted, mode_refusal}
+
+-- A REFUSAL AND ITS NUMBER
+
+pub named_number : (e : Refusal) → named (number e) ≡ e
+unfolding named
+named_number Mode = refl
+named_number Role = refl
+named_number TrainingLength = refl
+named_number State = refl
+named_number Bit = refl
+named_number BitCount = refl
+named_number Lent = refl
+named_number Coordinate = refl
+named_number NoIntervals = refl
+named_number StoreSize = refl
+named_number StoreHead = refl
+named_number StoreIndex = refl
+named_number StoreRecord = refl
+named_number StoreTotal = refl
+named_number Intervals = refl
+named_number StoreFull = refl
+named_number NotFinite = refl
+named_number BlockSize = refl
+
+pub some_number : (e : Refusal) → number e ≡ 0 → ⊥
+some_number Mode z = omega arith
+some_number Role z = omega arith
+some_number TrainingLength z = omega arith
+some_number State z = omega arith
+some_number Bit z = omega arith
+some_number BitCount z = omega arith
+some_number Lent z = omega arith
+some_number Coordinate z = omega arith
+some_number NoIntervals z = omega arith
+some_number StoreSize z = omega arith
+some_number StoreHead z = omega arith
+some_number StoreIndex z = omega arith
+some_number StoreRecord z = omega arith
+some_number StoreTotal z = omega arith
+some_number Intervals z = omega arith
+some_number StoreFull z = omega arith
+some_number NotFinite z = omega arith
+some_number BlockSize z = omega arith
+
+-- what a call gives, from its number: of one that is not refused, of a refused one
+pub answer_given : {A : Type 0} (n : ℕ) (a : A) → n ≡ 0 → Ok a ≡ answered n a
+answer_given zero a z = refl
+answer_given (suc n) a z = absurd (omega arith)
+
+pub answer_refused : {A : Type 0} (e : Refusal) (n : ℕ) (a : A) → number e ≡ n → Err e ≡ answered n a
+answer_refused e zero a h = absurd (some_number e h)
+answer_refused e (suc n) a h = ap Err (sym (named_number e) ∙ ap named h)
+
+-- a number that a call can give
+abbrev pub Listed : ℕ → Type 0
+Listed n = (n ≡ 0 → ⊥) → number (named n) ≡ n
+
+pub listed_number : (e : Refusal) → Listed (number e)
+listed_number e h = ap number (named_number e)
+
+pub listed_need : (b : Bool) (n rest : ℕ) → Listed n → Listed rest → Listed (need b n rest)
+listed_need true n rest h k = k
+listed_need false n rest h k = h
+
+pub listed_next : (a b : ℕ) → Listed a → Listed b → Listed (or_next a b)
+listed_next zero b h k = k
+listed_next (suc a) b h k = h
+
+pub numbered_answer : {A : Type 0} (n : ℕ) (a : A) → Listed n → numbered (answered n a) ≡ n
+numbered_answer zero a h = refl
+numbered_answer (suc n) a h = h (λ (z : suc n ≡ 0). omega arith)
+
+-- THE NEEDS
 
 pub need_met : (b : Bool) (n k : ℕ) → need b (suc n) k ≡ 0 → T b
 need_met true n k e = tt

@@ -1,16 +1,14 @@
 -- A test over a list, computed once, and the law that carries it to each member. Assumes nothing.
-use mathlib.Core.Path.{◌≡◌, refl, sym, ap, ap₂, ◌∙◌, subst}
-use mathlib.Core.Bool.{Bool, true, false, ◌&&◌, ◌||◌, not, cond, and-true, and_assoc}
+use mathlib.Core.Path.{◌≡◌, refl, sym, ap, subst}
+use mathlib.Core.Bool.{Bool, true, false, ◌&&◌, ◌||◌, not, cond}
 use mathlib.Core.List.{List, [], ◌∷◌, ◌++◌, map}
 use Prim.Native.Nat.{ℕ, zero, suc, ◌+◌, ◌%◌, ◌<◌, ◌≤◌}
 use native.Mathlib.Nat.{not-suc-le-zero, mod-lt}
 use native.Mathlib.Omega.{arith}
-use native.Mathlib.Decide.{dec_lt}
 use borrow.Author.Tests.{eqb-false}
 use lib.Dec.{T, eqb, ltb, eqb→eq, ltb→lt}
-use lib.ListN.{length, get_or, set, take, drop, replicate, length-set, drop_of_length-le}
-use lib.Seq.{drop-cons, get_or-set_same, get_or-set_other}
-use Rattle.line.specs.Table.{entry, row_from, member, below, every, Tabled}
+use lib.ListN.{length, get_or, take, drop}
+use Rattle.line.specs.Table.{entry, row_from, member, below, every}
 
 pub and_left : (a b : Bool) → T (a && b) → T a
 and_left true b t = tt
@@ -79,16 +77,6 @@ module _ {A : Type 0} (f : A → Bool) where
   every-placed none zero (x ∷ xs) h t = and_left (f x) (every f xs) t
   every-placed none (suc k) (x ∷ xs) h t = every-placed none k xs (omega arith) (and_right (f x) (every f xs) t)
 
--- a loop that looks at one member after the other: those before k were looked at, and `all` says whether each passed
-module _ {A : Type 0} (f : A → Bool) (none : A) (xs : List A) (k : ℕ) (all : Bool) (e : every f xs ≡ all && every f (drop k xs)) where
-  pub every-step : (b : Bool) → k < length xs → b ≡ f (get_or xs k none) → every f xs ≡ (all && b) && every f (drop (k + 1) xs)
-  every-step b h q =
-      e ∙ ap (λ (l : List A). all && every f l) (drop-cons xs k none h) ∙ sym (and_assoc all (f (get_or xs k none)) (every f (drop (suc k) xs)))
-      ∙ ap₂ (λ (c : Bool) (n : ℕ). (all && c) && every f (drop n xs)) (sym q) (let i : suc k ≡ k + 1 = omega arith in i)
-
-  pub every_end : length xs ≤ k → all ≡ every f xs
-  every_end h = sym (e ∙ ap (λ (l : List A). all && every f l) (drop_of_length-le xs h) ∙ and-true all)
-
 -- a part of a list, mapped
 pub map-take : {A B : Type 0} (f : A → B) (n : ℕ) (xs : List A) → map f (take n xs) ≡ take n (map f xs)
 map-take f zero xs = refl
@@ -138,24 +126,3 @@ pub row_below : (f : ℕ → Bool) (k n : ℕ) → row_from f k n ≤ k + n
 unfolding row_from
 row_below f k zero = omega arith
 row_below f k (suc n) = row_step (f k) k n (row_from f (suc k) n) (row_below f (suc k) n)
-
--- a table that is filled from its first entry on
-module _ {A : Type 0} (rule : ℕ → A) (none : A) where
-  abbrev pub FilledTo : ℕ → List A → Type 0
-  FilledTo i t = (length t ≡ 16) × ((j : ℕ) → j < i → get_or t j none ≡ rule j)
-
-  -- the first entry in every place, and one more
-  pub filled_first : (v : A) → v ≡ rule 0 → FilledTo 1 (replicate 16 v)
-  filled_first v e = (refl, λ j h. let z : j ≡ 0 = omega arith in ap (λ (n : ℕ). get_or (replicate 16 v) n none) z ∙ e ∙ ap rule (sym z))
-
-  pub filled_next : (i : ℕ) (v : A) (t : List A) → i < 16 → FilledTo i t → v ≡ rule i → FilledTo (i + 1) (set t i v)
-  filled_next i v t h f e = (length-set t i v ∙ f.0, λ j k. go j k (dec_lt j i))
-    where
-      go : (j : ℕ) → j < i + 1 → Dec (j < i) → get_or (set t i v) j none ≡ rule j
-      go j k (yes p) = get_or-set_other t i j v none (λ q. omega arith) ∙ f.1 j p
-      go j k (no p) =
-          let q : j ≡ i = omega (arith, p) in
-          ap (λ (n : ℕ). get_or (set t i v) n none) q ∙ get_or-set_same t i v none (omega (arith, f.0)) ∙ e ∙ ap rule (sym q)
-
-  pub filled_all : (i : ℕ) (t : List A) → 16 ≤ i → FilledTo i t → Tabled 16 rule none t
-  filled_all i t h f = record { size = f.0; at = λ j k. f.1 j (omega arith) }

@@ -5,7 +5,11 @@ ghost use Rattle.std.specs.Prelude.{◌≡◌, ◌≤◌, pos, nat_abs};
 ghost use Rattle.line.specs.Table.{Tabled};
 ghost use Rattle.line.specs.Mode.{column, is_mode, is_role, width, guarded, capacity, is_state};
 ghost use Rattle.line.specs.Point.{at, coordinate_in, in_range, coordinates_in, sent_point};
-ghost use Rattle.line.specs.Refusal.{or_next, mode_refusal};
+ghost use Rattle.line.specs.Refusal.{numbered, mode_refusal};
+
+pub use refusal::{Refusal, need, number_of, or_next};
+
+mod refusal; // why a call is refused
 
 // A point: 1024 to one level.
 #[derive(Clone, Copy)]
@@ -14,23 +18,28 @@ pub struct Point {
     pub im: i16,
 }
 
+// A mode and a role are numbers here and in the states, and not enums: C hands in any byte, and `mode_fault` refuses those that are none.
 pub fn mode_ok(mode: u8) -> bool
     ensures { result ≡ is_mode mode }
 {
     (1 <= mode) & (mode <= 6)
 }
 
-// The column of a mode: 5 and 6 read those of 1 and 2.
+// The column of a mode: 5 and 6 read those of 1 and 2. It is a number, and what takes it in `deciding`, `coding` and `scrambler` asks for at
+// most 4: an enum of the four was tried there, and of its matches the compiler made jumps through tables and calls: a single point took 10 to
+// 28 percent more instructions, a block of modes 5 and 6 twice as many (docs/DECISIONS.md, Speed).
 pub fn column_of(mode: u8) -> u8
     ensures { result ≡ column mode }
 {
-    if mode <= 4 {
-        return mode;
+    match mode {
+        0..=4 => mode,
+        5 => 1,
+        _ => 2,
     }
-    if mode <= 5 { 1 } else { 2 }
 }
 
 // Whether a mode has the guard.
+#[tactic(auto, unfolding(crate::specs::Mode::guarded))]
 pub fn has_guard(mode: u8) -> bool
     ensures { result ≡ guarded mode }
 {
@@ -47,43 +56,25 @@ pub fn role_ok(mode: u8, role: u8) -> bool
     }
 }
 
-// The number of a need that is not met, else the rest.
-pub fn need(met: bool, number: u8, rest: u8) -> u8
-    ensures { result ≡ Rattle.line.specs.Refusal.need met number rest }
+// What is wrong with a mode and a role of it.
+#[tactic(auto, unfolding(crate::specs::Refusal::mode_refusal))]
+pub fn mode_fault(mode: u8, role: u8) -> Result<(), Refusal>
+    ensures { numbered result ≡ mode_refusal mode role }
 {
-    if met { rest } else { number }
-}
-
-// The first of two refusals.
-pub fn or_next(a: u8, b: u8) -> u8
-    ensures { result ≡ or_next a b }
-{
-    if a == 0 {
-        return b;
-    }
-    a
-}
-
-// The numbers about a mode and a role of it.
-pub fn mode_fault(mode: u8, role: u8) -> u8
-    ensures { result ≡ mode_refusal mode role }
-{
-    need(mode_ok(mode), 1, need(role_ok(mode, role), 2, 0))
+    need(mode_ok(mode), Refusal::Mode)?;
+    need(role_ok(mode, role), Refusal::Role)
 }
 
 // The line bits in a point.
+#[tactic(auto, using(crate::proofs::ByMode::mode_1, crate::proofs::ByMode::mode_2, crate::proofs::ByMode::mode_3, crate::proofs::ByMode::mode_4), unfolding(crate::specs::Mode::width))]
 pub fn width_of(mode: u8) -> u8
     ensures { result ≡ width mode }
 {
-    let c = column_of(mode);
-    if c <= 1 {
-        2
-    } else if c == 2 {
-        3
-    } else if c == 3 {
-        2
-    } else {
-        4
+    match column_of(mode) {
+        0..=1 => 2,
+        2 => 3,
+        3 => 2,
+        _ => 4,
     }
 }
 
@@ -98,18 +89,15 @@ pub fn capacity_of(mode: u8) -> u8
     if column_of(mode) <= 2 { 7 } else { 23 }
 }
 
+#[tactic(auto, using(crate::proofs::StateLaws::states_2, crate::proofs::StateLaws::states_3))]
 pub fn state_ok(mode: u8, s: u8) -> bool
     ensures { result ≡ is_state mode s }
 {
-    let c = column_of(mode);
-    if c <= 1 {
-        (s < 8) & (s % 2 == 0)
-    } else if c == 2 {
-        s < 8
-    } else if c == 3 {
-        (s < 16) & (s % 4 == 1)
-    } else {
-        s < 16
+    match column_of(mode) {
+        0..=1 => (s < 8) & (s % 2 == 0),
+        2 => s < 8,
+        3 => (s < 16) & (s % 4 == 1),
+        _ => s < 16,
     }
 }
 
@@ -193,7 +181,7 @@ const SENT32: [Point; 16] = [
 pub fn sent_point(mode: u8, s: u8) -> Point
     ensures { result ≡ sent_point mode s }
 {
-    let i = s as usize;
+    let i = usize::from(s);
     if column_of(mode) <= 2 {
         SENT27[i % 8]
     } else {
@@ -206,11 +194,7 @@ pub fn size(x: i16) -> u32
     ensures value { result ≡ nat_abs x }
     ensures upper_bound { result ≤ 32768 }
 {
-    if 0 <= x {
-        x as u32
-    } else {
-        (0 - (x as i32)) as u32
-    }
+    u32::from(x.unsigned_abs())
 }
 
 // Whether a coordinate lies from -16384 to 16384. It is compared as it stands, not by its size: so many are compared at once.
@@ -228,14 +212,13 @@ pub fn in_range(re: i16, im: i16) -> bool
 }
 
 // Whether each of many coordinates does. All are looked at, since nearly always all are in range.
+// Other types have this loop again: a function for all would take its test as a closure, for which a public one needs a `requires`.
 pub fn all_in_range(numbers: &[i16]) -> bool
     ensures { result ≡ coordinates_in numbers.now }
 {
     let mut all = true;
-    let mut k = 0;
-    while k < numbers.len() {
-        all = all & coordinate_ok(numbers[k]);
-        k += 1;
+    for x in numbers {
+        all &= coordinate_ok(*x);
     }
     all
 }
@@ -245,14 +228,8 @@ pub fn constellation(mode: u8) -> [Point; 16]
     ensures { Tabled 16 (sent_point mode) (at (pos 0) (pos 0)) result }
 {
     if column_of(mode) <= 2 {
-        let t = SENT27;
-        let mut points = SENT32;
-        let mut s = 0;
-        while s < 16 {
-            points[s] = t[s % 8];
-            s += 1;
-        }
-        return points;
+        let [a, b, c, d, e, f, g, h] = SENT27;
+        return [a, b, c, d, e, f, g, h, a, b, c, d, e, f, g, h];
     }
     SENT32
 }

@@ -15,8 +15,8 @@ use Rattle.line.proofs.Tests.{by_test}
 use Rattle.deciding.specs.Decide.{Region, State, Origin, decide}
 use Rattle.deciding.proofs.DecideLaws.{Off, at_origin}
 use Rattle.scrambler.specs.Scramble.{Datum, unsettled, settled}
-use Rattle.receiver.specs.declared.Reference.{Reference}
-use Rattle.receiver.specs.declared.Reference.TheVariants.{Nothing as none, State as some}
+use Rattle.receiver.specs.Reference.{Reference}
+use Rattle.std.specs.Prelude.{None as none, Some as some}
 use Rattle.receiver.specs.declared.Receiver.{Receiver}
 use Rattle.receiver.specs.Receiver.{fresh_receiver, Answer, refused, reference, decoded, state_answer, point_answer, event_answer, answer, state_refusal, has_room, next}
 use Rattle.receiver.specs.Receiver.{Event as Call, gap, lost as lostAnswer, refusal as eventRefused, event_refusal as eventNeeds}

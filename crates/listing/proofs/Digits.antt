@@ -2,7 +2,7 @@
 use mathlib.Core.Path.{◌≡◌, refl, sym, ap, ◌∙◌}
 use mathlib.Core.Bool.{Bool, true}
 use mathlib.Core.List.{List, [], ◌∷◌, ◌++◌}
-use Prim.Native.Nat.{ℕ, zero, suc, ◌+◌, ◌*◌, ◌-◌, ◌/◌, ◌%◌, ◌^◌, ◌≤◌, ◌<◌}
+use Prim.Native.Nat.{ℕ, zero, suc, ◌+◌, ◌*◌, ◌-◌, ◌/◌, ◌%◌, ◌^◌, ◌≤◌, ◌<◌, max}
 use native.Mathlib.Omega.{arith}
 use native.Mathlib.Nat.{pow-suc}
 use borrow.Author.Tests.{lt-ltb, le-ltb, ltb-true}
@@ -98,42 +98,28 @@ pub decimal-value : (n : ℕ) → n ≤ 4294967295 → value 0 (decimal n) ≡ n
 unfolding decimal
 decimal-value n h = digits_value 10 n (let q : n < 10000000000 = omega arith in q)
 
--- ---- counted
--- k - 1 digits are passed, and f + 1 hold the rest
-pub record Counting (n k rest : ℕ) : Type 0 where
-  pub least : 1 ≤ k
-  pub most : k ≤ 10
-  pub small : rest < 10 ^ suc (10 - k)
-  pub counted : k + length (digits (suc (10 - k)) rest) ≡ suc (length (decimal n))
+-- ---- counted, by the largest power of ten that is no larger
+ten_some : (k : ℕ) → 1 ≤ 10 ^ k
+ten_some zero = omega arith
+ten_some (suc k) = omega (arith, pow-suc 10 k, ten_some k)
 
-pub counting-start : (n : ℕ) → n < 4294967296 → Counting n 1 n
+digits_count : (f k n : ℕ) → 10 ^ k ≤ n → n < 10 * 10 ^ k → k < f → length (digits f n) ≡ suc k
+digits_count zero k n low high few = absurd (omega arith)
+digits_count (suc f) zero n low high few = ap length (digits_few f n (let q : n < 10 = high in q))
+digits_count (suc f) (suc k) n low high few =
+    let p = pow-suc 10 k in
+    let one = ten_some k in
+    let t = digits_count f k (n / 10) (omega arith) (omega arith) (omega arith) in
+    omega (arith, t, ap length (digits_more f n (omega arith)), length-append (digits f (n / 10)) ((48 + n % 10) ∷ []))
+
+-- zero has one digit, as one has
+pub decimal_count : (n k : ℕ) → 10 ^ k ≤ max n 1 → max n 1 < 10 * 10 ^ k → k < 10 → length (decimal n) ≡ k + 1
 unfolding decimal
-counting-start n h = record { least = omega arith; most = omega arith; small = let q : n < 10000000000 = omega arith in q; counted = omega arith }
-
-fuel_left : (f rest : ℕ) → 10 ≤ rest → rest < 10 ^ suc f → 1 ≤ f
-fuel_left zero rest h l = absurd (let q : rest < 10 = l in omega arith)
-fuel_left (suc f) rest h l = omega arith
-
-pub counting-left : (n k rest : ℕ) → Counting n k rest → 10 ≤ rest → k < 10
-counting-left n k rest g h = omega (arith, fuel_left (10 - k) rest h g.small, g.most)
-
-pub counting-step : (n k rest : ℕ) → Counting n k rest → 10 ≤ rest → Counting n (k + 1) (rest / 10)
-counting-step n k rest g h =
-    let l : k < 10 = counting-left n k rest g h in
-    let e : 10 - k ≡ suc (10 - (k + 1)) = omega arith in
-    let f : ℕ = suc (10 - (k + 1)) in
-    let d = digits_more f rest h in
-    let p : rest < 10 ^ suc f = rw e at g.small in
-    let q : k + length (digits (suc f) rest) ≡ suc (length (decimal n)) = rw e at g.counted in
-    record {
-      least = omega arith;
-      most = omega arith;
-      small = omega (arith, p, pow-suc 10 f);
-      counted = omega (arith, q, ap length d, length-append (digits f (rest / 10)) ((48 + rest % 10) ∷ []));
-    }
-
-pub counting_end : (n k rest : ℕ) → Counting n k rest → rest < 10 → (k ≡ length (decimal n)) × (k ≤ 10)
-counting_end n k rest g h = (omega (arith, g.counted, ap length (digits_few (10 - k) rest h)), g.most)
+decimal_count zero k low high few =
+    let t = digits_count 10 k 1 low high few in
+    let one : length (digits 10 1) ≡ 1 = refl in
+    omega arith
+decimal_count (suc n) k low high few = digits_count 10 k (suc n) (let q : 10 ^ k ≤ suc n = omega arith in q) (omega arith) few ∙ omega arith
 
 -- ---- written, from the last one on
 set_first : (u l : List ℕ) (i k d : ℕ) → i + length u ≤ k → set (sets l i u) k d ≡ sets (set l k d) i u

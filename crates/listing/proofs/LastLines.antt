@@ -4,14 +4,18 @@ use mathlib.Core.List.{List, [], ◌∷◌, ◌++◌, append_assoc}
 use Prim.Native.Nat.{ℕ, zero, suc, ◌+◌, ◌-◌, ◌≤◌, ◌<◌}
 use native.Mathlib.Omega.{arith}
 use native.Mathlib.Nat.{zero-add}
-use borrow.Author.Tests.{le-leb, lt-leb}
+use borrow.Author.Tests.{leb-true}
+use mathlib.Core.Bool.{Bool, true, false, ◌&&◌}
+use lib.Dec.{leb}
 use lib.ListN.{length, get_or, length-append}
-use Rattle.line.specs.Refusal.{accepted}
-use Rattle.line.proofs.RefusalLaws.{left_done, left_kept}
+use Rattle.std.specs.Prelude.{Ok, Err}
+use Rattle.line.specs.declared.refusal.Refusal.{Refusal}
+use Rattle.line.specs.Refusal.{number, need, accepted}
+use Rattle.line.proofs.RefusalLaws.{some_number, need-zero, left_done, left_kept}
 use Rattle.store.specs.Store.{events, refusal}
 use Rattle.summing.specs.declared.EventSums.{EventSums}
-use Rattle.summing.specs.Sums.{sums_of}
-use Rattle.listing.specs.declared.Listed.TheVariants.{Refused, Written}
+use Rattle.summing.specs.Sums.{sums_of, Small}
+use Rattle.line.proofs.Tests.{and_split}
 use Rattle.listing.specs.Text.{decimal, refused_by, line_end, sum_line, refused_line, text}
 use Rattle.listing.specs.Agreement.{lines_in}
 use Rattle.listing.specs.LastLine.{last_line, longest_line, line_number, small_sums, sum_number, Writes, EachFits, LastInText}
@@ -23,10 +27,12 @@ use Rattle.listing.proofs.Agreements.{lines_agree, refused_cut}
 
 -- ---- the call
 module _ (n : ℕ) (t out : List ℕ) where
-  pub writes_none : (k : ℕ) → suc k ≡ n → Writes n t out out (Refused (suc k))
-  writes_none k e = record { number = e; counts = left_kept n _ _ (λ z. omega arith); bytes = left_kept n _ _ (λ z. omega arith) }
+  pub writes_none : (f : Refusal) → number f ≡ n → Writes n t out out (Err f)
+  writes_none f e =
+      let k : n ≡ 0 → ⊥ = λ z. some_number f (e ∙ z) in
+      record { number = e; counts = left_kept n _ _ k; bytes = left_kept n _ _ k }
 
-  pub writes_line : {out' : List ℕ} {k : ℕ} → n ≡ 0 → Wrote out 0 t out' k → Writes n t out out' (Written k)
+  pub writes_line : {out' : List ℕ} {k : ℕ} → n ≡ 0 → Wrote out 0 t out' k → Writes n t out out' (Ok k)
   writes_line {out'} {k} z w =
       record {
         number = sym z;
@@ -34,33 +40,32 @@ module _ (n : ℕ) (t out : List ℕ) where
         bytes = w.written ∙ left_done n _ _ z;
       }
 
-pub line_short : (room : ℕ) → room < longest_line → 7 ≡ line_number room
+pub line_need : (room : ℕ) → need (leb longest_line room) 7 0 ≡ line_number room
 unfolding line_number
-line_short room h = rw (lt-leb longest_line room h)
-
-pub line_room : (room : ℕ) → longest_line ≤ room → line_number room ≡ 0
-unfolding line_number
-line_room room h = rw (le-leb longest_line room h)
+line_need room = refl
 
 -- ---- sums
 module _ (v : EventSums) (room : ℕ) where
-  pub sum_points_lem : 4294967295 < v.points → 4 ≡ sum_number v room
+  abbrev within : Bool
+  within = (leb v.points 4294967295 && leb v.lost 4294967295) && leb v.gaps 4294967295
+
+  pub sum_large : (f : Refusal) → number f ≡ need within 4 0 → number f ≡ sum_number v room
   unfolding sum_number small_sums
-  sum_points_lem h = rw (lt-leb v.points 4294967295 h)
+  sum_large f e = go within e
+    where
+      go : (b : Bool) → number f ≡ need b 4 0 → number f ≡ need b 4 (line_number room)
+      go true q = absurd (some_number f q)
+      go false q = q
 
-  module _ (p : v.points ≤ 4294967295) where
-    pub sum_lost : 4294967295 < v.lost → 4 ≡ sum_number v room
-    unfolding sum_number small_sums
-    sum_lost h = rw (le-leb v.points 4294967295 p, lt-leb v.lost 4294967295 h)
+  pub sum_small : 0 ≡ need within 4 0 → line_number room ≡ sum_number v room
+  unfolding sum_number small_sums
+  sum_small e = rw (need-zero within 4 0 (omega arith) (sym e)).0
 
-    module _ (l : v.lost ≤ 4294967295) where
-      pub sum_gaps : 4294967295 < v.gaps → 4 ≡ sum_number v room
-      unfolding sum_number small_sums
-      sum_gaps h = rw (le-leb v.points 4294967295 p, le-leb v.lost 4294967295 l, lt-leb v.gaps 4294967295 h)
-
-      pub sum_small : v.gaps ≤ 4294967295 → line_number room ≡ sum_number v room
-      unfolding sum_number small_sums
-      sum_small h = rw (le-leb v.points 4294967295 p, le-leb v.lost 4294967295 l, le-leb v.gaps 4294967295 h)
+  pub sum_fits : 0 ≡ need within 4 0 → Small v
+  sum_fits e =
+      let a = and_split (leb v.points 4294967295 && leb v.lost 4294967295) (leb v.gaps 4294967295) (need-zero within 4 0 (omega arith) (sym e)).0 in
+      let b = and_split (leb v.points 4294967295) (leb v.lost 4294967295) a.0 in
+      (leb-true _ _ b.0, leb-true _ _ b.1, leb-true _ _ a.1)
 
 -- ---- the last line of a listing
 pub last_sums : (s : List ℕ) (v : EventSums) → refusal s ≡ 0 → v ≡ sums_of (events s) → sum_line v ≡ last_line s

@@ -19,8 +19,8 @@ use Rattle.line.proofs.Tests.{by_test, and_split}
 use Rattle.scrambler.specs.Scramble.{Datum, descramble}
 use Rattle.scrambler.proofs.BitLaws.{length-bits}
 use Rattle.scrambler.proofs.GroupLaws.{length-descramble}
-use Rattle.receiver.specs.declared.Reference.{Reference}
-use Rattle.receiver.specs.declared.Reference.TheVariants.{Nothing as none, State as some}
+use Rattle.receiver.specs.Reference.{Reference}
+use Rattle.std.specs.Prelude.{None as none, Some as some}
 use Rattle.receiver.specs.declared.Receiver.{Receiver}
 use Rattle.receiver.specs.Receiver.{fresh_receiver, refused, line_bits, state_answer, point_answer, event_answer, answer}
 use Rattle.receiver.specs.Receiver.{gap, next, Event as Call, point as pointCall, refusal as eventRefused}

@@ -13,17 +13,19 @@ use Rattle.receiver.specs.declared.Intervals.{Intervals}
 use Rattle.receiver.specs.declared.Receiver.{Receiver}
 use Rattle.receiver.specs.declared.Outcome.{Outcome}
 use Rattle.receiver.specs.declared.Outcome.TheVariants.{Gap}
+use Rattle.std.specs.Prelude.{Result, Ok}
+use Rattle.line.specs.declared.refusal.Refusal.{Refusal}
 use Rattle.receiver.specs.Receiver.{event_answer, answer, next}
 use Rattle.receiver.specs.Receiver.{Event as Call, gap, lost as lostFor, refusal as refused}
 use Rattle.receiver.specs.Calls.{after, EachAccepted}
 use Rattle.receiver.specs.Outcome.{state_of, Told, gap_outcome, event_outcome, outcome}
-use Rattle.store.specs.Layout.{rec, kind, held, is_points, points, points_ok, record_ok, events_of}
-use Rattle.store.specs.Layout.{next as nextIn}
+use Rattle.store.specs.Layout.{kind, held, is_points, points, points_ok, record_ok, events_of}
 use Rattle.store.specs.Store.{events, refusal}
 use Rattle.line.specs.Table.{All}
-use Rattle.store.proofs.Readings.{Along, along_start, along_step, ahead, ahead-start, ahead_step, left, left-start, left_step, left_end, of_points, of_lost}
+use Rattle.store.specs.Records.{records, events_in}
+use Rattle.store.proofs.Readings.{of_points, of_lost}
+use Rattle.store.proofs.RecordRuns.{records_fine, records_events}
 use Rattle.receiver.proofs.CallLaws.{each_split}
-use Rattle.store.proofs.Sounds.{accepted_sound}
 use Rattle.listing.specs.declared.Progress.{Progress}
 use Rattle.listing.specs.Text.{taken, line_text, lines}
 use Rattle.listing.specs.Wrote.{Wrote, Went}
@@ -62,11 +64,11 @@ module _ (r : List ℕ) (n : ℕ) (s : Receiver) (free : EachAccepted s (map tak
     lost_free : refused s (gap n) ≡ 0
     lost_free = rw e (rw (of_lost r k) at free).0
 
-    pub is_gap : outcome s (gap n) ≡ gap_outcome s n
+    pub is_gap : outcome s (gap n) ≡ Ok (gap_outcome s n)
     unfolding outcome event_outcome
     is_gap = rw lost_free
 
-    pub went_lost : {out out' : List ℕ} {p q : ℕ} (t : Receiver) (o : Outcome) (i : Intervals) → Told s (gap n) o → o ≡ Gap i t
+    pub went_lost : {out out' : List ℕ} {p q : ℕ} (t : Receiver) (o : Result Outcome Refusal) (i : Intervals) → Told s (gap n) o → o ≡ Ok (Gap i t)
         → Wrote out p (line_text s.place.0 (lostFor n)) out' q → Went out p s (map taken (events_of r)) out' (record { at = q; state = t })
     unfolding answer event_answer
     went_lost {out} {out'} {p} {q} t o i h u w =
@@ -77,59 +79,54 @@ module _ (r : List ℕ) (n : ℕ) (s : Receiver) (free : EachAccepted s (map tak
           state = sym (ap (state_of s) u) ∙ h.state_is;
         })
 
--- ---- the chain
-pub record Listing (s out₀ out : List ℕ) (p₀ : ℕ) (t₀ : Receiver) (p : Progress) (k i : ℕ) : Type 0 where
-  pub along : Along s k i
-  pub fine : All (λ j. record_ok (rec s j) ≡ true) (ahead s k i)
-  pub free : EachAccepted p.state (map taken (left s k i))
+-- ---- the chain, where some of its records are left
+pub record Listing (s out₀ out : List ℕ) (p₀ : ℕ) (t₀ : Receiver) (p : Progress) (left : List (List ℕ)) : Type 0 where
+  pub fine : All (λ r. record_ok r ≡ true) left
+  pub free : EachAccepted p.state (map taken (events_in left))
   pub long : length out ≡ length out₀
-  pub rest : Rest out₀ out p₀ p.at (lines t₀ (map taken (events s))) (lines p.state (map taken (left s k i)))
+  pub rest : Rest out₀ out p₀ p.at (lines t₀ (map taken (events s))) (lines p.state (map taken (events_in left)))
 
-pub listing_start : (s out : List ℕ) (p : ℕ) (t : Receiver) (i : ℕ) → refusal s ≡ 0 → EachAccepted t (map taken (events s)) → i ≡ nextIn s 0
-    → Listing s out out p t (record { at = p; state = t }) 0 i
-listing_start s out p t i acc h e =
-    let all : map taken (left s 0 i) ≡ map taken (events s) = ap (map taken) (left-start s i e) in
+pub listing_start : (s out : List ℕ) (p : ℕ) (t : Receiver) (left : List (List ℕ)) → refusal s ≡ 0 → EachAccepted t (map taken (events s)) → left ≡ records s
+    → Listing s out out p t (record { at = p; state = t }) left
+listing_start s out p t left acc h e =
+    let all : map taken (events_in left) ≡ map taken (events s) = ap (map taken) (ap events_in e ∙ records_events s) in
     record {
-      along = along_start s i acc e;
-      fine = rw (ahead-start s i e) (accepted_sound s acc).records;
+      fine = subst⁻¹ (All (λ r. record_ok r ≡ true)) e (records_fine s acc);
       free = subst⁻¹ (EachAccepted t) all h;
       long = refl;
       rest = rest_all refl (ap (lines t) all);
     }
 
-module _ (s out₀ out : List ℕ) (p₀ : ℕ) (t₀ : Receiver) (p : Progress) (k i : ℕ) (g : Listing s out₀ out p₀ t₀ p k i) where
-  pub listing_end : i ≡ 0 → Wrote out₀ p₀ (lines t₀ (map taken (events s))) out p.at
-  listing_end e = rest_none g.rest (ap (λ es. lines p.state (map taken es)) (left_end s k i e))
+module _ (s out₀ out : List ℕ) (p₀ : ℕ) (t₀ : Receiver) (p : Progress) (left : List (List ℕ)) (g : Listing s out₀ out p₀ t₀ p left) where
+  pub listing_end : left ≡ [] → Wrote out₀ p₀ (lines t₀ (map taken (events s))) out p.at
+  listing_end e = rest_none g.rest (ap (λ (rs : List (List ℕ)). lines p.state (map taken (events_in rs))) e)
 
-  module _ (nz : i ≡ 0 → ⊥) where
+  module _ (r : List ℕ) (left' : List (List ℕ)) (e : left ≡ r ∷ left') where
     abbrev here : List Call
-    here = map taken (events_of (rec s i))
+    here = map taken (events_of r)
 
     abbrev later : List Call
-    later = map taken (left s (k + 1) (nextIn s i))
+    later = map taken (events_in left')
 
-    now_here : map taken (left s k i) ≡ here ++ later
-    now_here = ap (map taken) (left_step s k i (nextIn s i) g.along nz refl) ∙ map-append taken (events_of (rec s i)) _
+    now_here : map taken (events_in left) ≡ here ++ later
+    now_here = ap (λ (rs : List (List ℕ)). map taken (events_in rs)) e ∙ map-append taken (events_of r) (events_in left')
 
     both_free : EachAccepted p.state here × EachAccepted (after p.state here) later
     both_free = each_split p.state here later (subst (EachAccepted p.state) now_here g.free)
 
-    all_fine : All (λ j. record_ok (rec s j) ≡ true) (i ∷ ahead s (k + 1) (nextIn s i))
-    all_fine = subst (All (λ j. record_ok (rec s j) ≡ true)) (ahead_step s k i (nextIn s i) g.along nz refl) g.fine
+    all_fine : All (λ l. record_ok l ≡ true) (r ∷ left')
+    all_fine = subst (All (λ l. record_ok l ≡ true)) e g.fine
 
-    pub listing_here : (m : ℕ) → p₀ + length (lines t₀ (map taken (events s))) ≤ m → (record_ok (rec s i) ≡ true) × EachAccepted p.state here × (p.at ≤ m)
+    pub listing_here : (m : ℕ) → p₀ + length (lines t₀ (map taken (events s))) ≤ m → (record_ok r ≡ true) × EachAccepted p.state here × (p.at ≤ m)
     listing_here m h = (all_fine.0, both_free.0, omega (arith, g.rest.behind))
 
-    pub listing_step : (out' : List ℕ) (p' : Progress) (i' : ℕ) → i' ≡ nextIn s i → length out' ≡ length out → Went out p.at p.state here out' p'
-        → Listing s out₀ out' p₀ t₀ p' (k + 1) i'
-    listing_step out' p' i' e l w =
-        subst⁻¹ (λ (j : ℕ). Listing s out₀ out' p₀ t₀ p' (k + 1) j) e
-        (record {
-          along = along_step s k i (nextIn s i) g.along nz refl;
+    pub listing_step : (out' : List ℕ) (p' : Progress) → length out' ≡ length out → Went out p.at p.state here out' p' → Listing s out₀ out' p₀ t₀ p' left'
+    listing_step out' p' l w =
+        record {
           fine = all_fine.1;
           free = subst⁻¹ (λ (t : Receiver). EachAccepted t later) w.state both_free.1;
           long = l ∙ g.long;
           rest = rest_then g.rest
               (ap (lines p.state) now_here ∙ lines_append p.state here later ∙ ap (λ (t : Receiver). lines p.state here ++ lines t later) (sym w.state))
               w.wrote;
-        })
+        }

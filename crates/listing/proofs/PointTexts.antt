@@ -12,7 +12,7 @@ use lib.Seq.{sets, sets-eq, take_at, drop-cons, drop-drop}
 use Rattle.line.specs.declared.Point.{Point}
 use Rattle.line.specs.Mode.{width, face}
 use Rattle.line.specs.Point.{at, pairs}
-use Rattle.line.specs.Refusal.{accepted}
+use Rattle.line.specs.Refusal.{answered, accepted}
 use Rattle.line.proofs.ByMode.{width_range}
 use Rattle.line.proofs.PointLaws.{pairs-length}
 use Rattle.octets.specs.Number.{u16, i16, signed}
@@ -26,16 +26,16 @@ use Rattle.scrambler.specs.Bits.{bits, value}
 use Rattle.scrambler.specs.Group.{descrambled, marked}
 use Rattle.scrambler.proofs.BitLaws.{length-bits, bits_are, value_small, bits-value}
 use Rattle.scrambler.proofs.GroupLaws.{group_read, descrambled_small}
-use Rattle.receiver.specs.declared.Reference.{Reference}
-use Rattle.receiver.specs.declared.Reference.TheVariants.{Nothing as none, State as some}
+use Rattle.std.specs.Prelude.{Result, Ok, Err}
+use Rattle.std.specs.Prelude.{None as none, Some as some}
+use Rattle.line.specs.declared.refusal.Refusal.{Refusal}
+use Rattle.receiver.specs.Reference.{Reference}
 use Rattle.receiver.specs.declared.Receiver.{Receiver}
 use Rattle.receiver.specs.Receiver.{Answer, decoded, state_refusal, state_answer, point_answer, event_answer, answer, next}
 use Rattle.receiver.specs.Receiver.{Event as Call, point, refused, refusal}
 use Rattle.receiver.specs.Calls.{after, EachAccepted, Heard, answers}
 use Rattle.receiver.proofs.OutcomeLaws.{accepted-placed}
 use Rattle.receiver.proofs.CallLaws.{no_refusal, accepted_valid, same_next, heard-accepted, heard_all}
-use Rattle.bulk.specs.declared.Block.{Block}
-use Rattle.bulk.specs.declared.Block.TheVariants.{Refused as NotTaken, Taken}
 use Rattle.bulk.specs.Block.{in_units, line_byte, plain_byte, answers_to, Parts, wrote, sizes, lent_ok, block_refusal, block, parts_after}
 use Rattle.bulk.proofs.BlockLaws.{has_place, each_has_place, at_once}
 use Rattle.store.specs.Layout.{points}
@@ -192,15 +192,15 @@ module _ (r : List ℕ) (n : ℕ) (s : Receiver) (numbers : List ℤ) (e : numbe
           le-leb (length (pairs zs)) (length b.distance) (omega arith),
         ) tt) tt each_accepted
 
-    is_taken : block s (in_units zs) (sizes b) ≡ Taken (after s (map point (pairs zs)))
+    is_taken : block s (in_units zs) (sizes b) ≡ Ok (after s (map point (pairs zs)))
     unfolding block
-    is_taken = ap (λ (k : ℕ). accepted k (Taken (after s (map point (pairs zs)))) (NotTaken k)) free_block
+    is_taken = ap (λ (k : ℕ). answered k (after s (map point (pairs zs)))) free_block
 
-    pub not_refused : (r : Block) (k : ℕ) → r ≡ block s (in_units zs) (sizes b) → r ≡ NotTaken k → ⊥
-    not_refused r k e h = let t = is_taken in let z : ◌≡◌ {A = ℕ} 0 1 = cc in omega arith
+    pub is_taken_lem : (r : Result Receiver Refusal) → r ≡ block s (in_units zs) (sizes b) → r ≡ Ok (after s (map point (pairs zs)))
+    is_taken_lem r e = e ∙ is_taken
 
-    pub points_went : {out out' : List ℕ} {at q : ℕ} (c : Parts) (d : Block) (t : Receiver) (w : ℕ) → c ≡ parts_after s (in_units zs) b
-        → d ≡ block s (in_units zs) (sizes b) → d ≡ Taken t → w ≡ width s.mode → Wrote out at (byte_lines w s.place.0 (take n c.line) (take n c.plain)) out' q
+    pub points_went : {out out' : List ℕ} {at q : ℕ} (c : Parts) (d : Result Receiver Refusal) (t : Receiver) (w : ℕ) → c ≡ parts_after s (in_units zs) b
+        → d ≡ block s (in_units zs) (sizes b) → d ≡ Ok t → w ≡ width s.mode → Wrote out at (byte_lines w s.place.0 (take n c.line) (take n c.plain)) out' q
         → Went out at s (map taken (points (drop 4 r) n)) out' (record { at = q; state = t })
     unfolding parts_after
     points_went {out} {out'} {at} {q} c d t w ec eb et ew a =

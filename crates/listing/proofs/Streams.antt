@@ -1,16 +1,17 @@
 -- The events of a block, one after the other. Assumes nothing.
 use mathlib.Core.Path.{◌≡◌, refl, sym, ap, ◌∙◌, subst⁻¹}
-use mathlib.Core.Bool.{Bool, true, false, not, ◌&&◌}
+use mathlib.Core.Bool.{Bool, ◌&&◌}
 use mathlib.Core.List.{List, [], ◌∷◌, ◌++◌, map, append_assoc}
-use Prim.Native.Nat.{ℕ, zero, suc, ◌+◌, ◌*◌, ◌-◌, ◌≤◌, ◌<◌}
+use Prim.Native.Nat.{ℕ, zero, suc, ◌+◌, ◌*◌, ◌-◌, ◌≤◌, ◌<◌, min}
 use native.Mathlib.Omega.{arith}
 use native.Mathlib.Nat.{zero-add}
 use borrow.Author.Tests.{le-leb, lt-leb, leb-true, leb-false}
 use lib.Dec.{leb}
 use lib.ListN.{length, drop, length-append, length-drop}
 use lib.Seq.{sets, drop-drop}
+use Rattle.line.specs.declared.refusal.Refusal.{Refusal}
 use Rattle.line.specs.Refusal.{need, or_next, accepted}
-use Rattle.line.proofs.RefusalLaws.{need-zero, next-first, or_some, or_zero, left_kept}
+use Rattle.line.proofs.RefusalLaws.{need-zero, next-first, or_zero}
 use Rattle.line.proofs.Tests.{by_test, and_split}
 use Rattle.receiver.specs.declared.Receiver.{Receiver}
 use Rattle.receiver.specs.Receiver.{state_refusal, refusal, answer, next}
@@ -19,25 +20,26 @@ use Rattle.store.specs.Layout.{Event}
 use Rattle.summing.specs.declared.EventSums.{EventSums}
 use Rattle.summing.specs.Sums.{sums_of, plus, Small}
 use Rattle.summing.proofs.SumLaws.{parts_add, plus_assoc, plus_none}
-use Rattle.capture.specs.declared.Next.{Next}
-use Rattle.capture.specs.declared.Next.TheVariants.{Point, Lost, Short}
-use Rattle.capture.specs.Capture.{first, size, events_in, told}
+use Rattle.std.specs.Prelude.{Option, Some, None}
+use Rattle.std.proofs.lemmas.Option.{none-some}
+use Rattle.capture.specs.declared.Event.{Event as Read}
+use Rattle.capture.specs.Capture.{first, size, events_in, event_of, told}
 use Rattle.listing.specs.declared.stream.ListedEvents.{ListedEvents}
 use Rattle.listing.specs.Text.{line_text, taken, lines}
-use Rattle.listing.specs.Stream.{until_refused, first_refused, sums_ok, longest_block, block_refusal, block_events, block_taken, listed_events, listed_bytes}
-use Rattle.listing.specs.Onward.{begun, more_lines, onward}
+use Rattle.listing.specs.Stream.{until_refused, first_refused, sums_ok, longest_block, block_refusal, block_events, block_taken, refusal_of, listed_events, listed_bytes}
+use Rattle.listing.specs.Onward.{first_of, unless, begun, more_lines, onward}
 use Rattle.listing.proofs.Writes.{Rest, rest_all, rest_then, rest_none}
 use Rattle.listing.proofs.Lengths.{event_long}
 use Rattle.listing.proofs.Events.{size_least, first-whole, events_none, events_one}
-use Rattle.listing.proofs.Answers.{same-listed, one_accepted, one_refused, onward_none, adds}
+use Rattle.listing.proofs.Answers.{same-listed, refusal_none, refusal_next, unless_accepted, unless_some, one_accepted, one_refused, onward_none, adds}
 
 -- ---- one event, and then others
-module _ (h : ListedEvents) (e : Event) (nz : h.number ≡ 0) (rest : List Event) where
+module _ (h : ListedEvents) (e : Event) (nz : h.refusal ≡ None) (rest : List Event) where
   abbrev one : ListedEvents
   one = onward h (e ∷ [])
 
   abbrev later : List Event
-  later = accepted one.number rest []
+  later = unless one.refusal rest []
 
   onward-step : (n : ℕ) → refusal h.state (taken e) ≡ n → onward one later ≡ onward h (e ∷ rest)
   unfolding onward more_lines
@@ -74,7 +76,7 @@ counted h es = refl
 -- ---- the loop
 -- the events that are left: none after a refused one
 abbrev pub left : List ℕ → ListedEvents → List Event
-left bs h = accepted h.number (events_in (drop h.used bs)) []
+left bs h = unless h.refusal (events_in (drop h.used bs)) []
 
 -- a block of not too many bytes, and sums of what the receiver took
 pub record Fine (bs : List ℕ) (h : ListedEvents) : Type 0 where
@@ -89,17 +91,17 @@ pub record Streaming (bs out₀ out : List ℕ) (h₀ h : ListedEvents) : Type 0
   pub text : Rest out₀ out h₀.count h.count (more_lines h₀ (left bs h₀)) (more_lines h (left bs h))
   pub inside : h.used ≤ length bs
   pub room : h.count ≤ 7 * h.used
-  pub fine : h.number ≡ 0 → Fine bs h
+  pub fine : h.refusal ≡ None → Fine bs h
 
 -- what one event leaves
 record Took (bs : List ℕ) (h : ListedEvents) (e : Event) (rest : List Event) (r : ListedEvents) : Type 0 where
-  left_is : left bs r ≡ accepted r.number rest []
+  left_is : left bs r ≡ unless r.refusal rest []
   inside : r.used ≤ length bs
   room : r.count ≤ 7 * r.used
-  fine : r.number ≡ 0 → Fine bs r
-  less : accepted r.number (suc (length bs - r.used)) 0 < suc (length bs - h.used)
+  fine : r.refusal ≡ None → Fine bs r
+  less : unless r.refusal (suc (length bs - r.used)) 0 < suc (length bs - h.used)
 
-module _ (bs : List ℕ) (h : ListedEvents) (e : Event) (nz : h.number ≡ 0) (i : h.used ≤ length bs) (c : h.count ≤ 7 * h.used) (f : Fine bs h)
+module _ (bs : List ℕ) (h : ListedEvents) (e : Event) (nz : h.refusal ≡ None) (i : h.used ≤ length bs) (c : h.count ≤ 7 * h.used) (f : Fine bs h)
     (q : first (drop h.used bs) ≡ e ∷ []) where
   abbrev behind : List Event
   behind = events_in (drop (size e) (drop h.used bs))
@@ -128,23 +130,17 @@ module _ (bs : List ℕ) (h : ListedEvents) (e : Event) (nz : h.number ≡ 0) (i
   took_refused : (n : ℕ) → refusal h.state (taken e) ≡ suc n → Took bs h e behind (onward h (e ∷ []))
   took_refused n z =
       rw (one_refused h e nz n z)
-      (record { left_is = refl; inside = i; room = c; fine = λ k. absurd (omega arith); less = omega arith })
+      (record { left_is = refl; inside = i; room = c; fine = λ k. absurd (none-some _ (sym k)); less = omega arith })
 
   took : (n : ℕ) → refusal h.state (taken e) ≡ n → Took bs h e behind (onward h (e ∷ []))
   took zero z = took_accepted z
   took (suc n) z = took_refused n z
 
   left_now : left bs h ≡ e ∷ behind
-  left_now = ap (λ (n : ℕ). accepted n (events_in (drop h.used bs)) []) nz ∙ events_one (drop h.used bs) e q
-
--- an event that is there
-told_one : (n : Next) → (n ≡ Short → ⊥) → (x : Event) × (told n ≡ x ∷ [])
-told_one (Point re im) k = (_, refl)
-told_one (Lost n) k = (_, refl)
-told_one Short k = absurd (k refl)
+  left_now = ap (λ (o : Option Refusal). unless o (events_in (drop h.used bs)) []) nz ∙ events_one (drop h.used bs) e q
 
 module _ (bs out₀ out : List ℕ) (h₀ h : ListedEvents) (g : Streaming bs out₀ out h₀ h) where
-  pub stream_small : h.number ≡ 0 → (h.count ≤ 500000) × (h.used ≤ 65536) × (h.number ≡ 0) × Small h.sums
+  pub stream_small : h.refusal ≡ None → (h.count ≤ 500000) × (h.used ≤ 65536) × (h.refusal ≡ None) × Small h.sums
   stream_small nz =
       let f = g.fine nz in (
         omega (arith, g.room, g.inside, f.few),
@@ -159,61 +155,47 @@ module _ (bs out₀ out : List ℕ) (h₀ h : ListedEvents) (g : Streaming bs ou
     (rest_none g.text (ap (more_lines h) e ∙ more_none h)).written,
   )
 
-  pub stream_short : (n : Next) → told n ≡ first (drop h.used bs) → n ≡ Short → (h.number ≡ 0) → left bs h ≡ []
+  pub stream_short : (n : Option Read) → told n ≡ first (drop h.used bs) → n ≡ None → (h.refusal ≡ None) → left bs h ≡ []
   stream_short n t e nz =
-      ap (λ (m : ℕ). accepted m (events_in (drop h.used bs)) []) nz ∙ events_none (drop h.used bs) (sym t ∙ ap told e)
+      ap (λ (o : Option Refusal). unless o (events_in (drop h.used bs)) []) nz ∙ events_none (drop h.used bs) (sym t ∙ ap told e)
 
-  pub stream_over : (h.number ≡ 0 → ⊥) → left bs h ≡ []
-  stream_over k = sym (left_kept h.number (events_in (drop h.used bs)) [] k)
+  pub stream_over : (h.refusal ≡ None → ⊥) → left bs h ≡ []
+  stream_over k = unless_some h.refusal (events_in (drop h.used bs)) [] k
 
-  module _ (n : Next) (nz : h.number ≡ 0) (t : told n ≡ first (drop h.used bs)) (k : n ≡ Short → ⊥) (out' : List ℕ) (r : ListedEvents)
-      (er : r ≡ onward h (told n)) (eo : out' ≡ sets out h.count (more_lines h (told n))) where
+  module _ (n : Option Read) (e : Read) (nz : h.refusal ≡ None) (t : told n ≡ first (drop h.used bs)) (k : n ≡ Some e) (out' : List ℕ) (r : ListedEvents)
+      (r_is : r ≡ onward h (event_of e ∷ [])) (eo : out' ≡ sets out h.count (more_lines h (event_of e ∷ []))) where
     abbrev x : Event
-    x = (told_one n k).0
-
-    is : told n ≡ x ∷ []
-    is = (told_one n k).1
+    x = event_of e
 
     at : first (drop h.used bs) ≡ x ∷ []
-    at = sym t ∙ is
-
-    r_is : r ≡ onward h (x ∷ [])
-    r_is = er ∙ ap (onward h) is
+    at = sym t ∙ ap told k
 
     done : Took bs h x (behind bs h x nz g.inside g.room (g.fine nz) at) r
     done = subst⁻¹ (λ (y : ListedEvents). Took bs h x (behind bs h x nz g.inside g.room (g.fine nz) at) y) r_is (took bs h x nz g.inside g.room (g.fine nz) at (refusal h.state (taken x)) refl)
 
-    pub stream_less : accepted r.number (suc (length bs - r.used)) 0 < accepted h.number (suc (length bs - h.used)) 0
+    pub stream_less : unless r.refusal (suc (length bs - r.used)) 0 < unless h.refusal (suc (length bs - h.used)) 0
     stream_less = rw nz done.less
 
     pub stream_again : length out' ≡ length out → Streaming bs out₀ out' h₀ r
     stream_again l =
         let rest : List Event = behind bs h x nz g.inside g.room (g.fine nz) at in
         let now = left_now bs h x nz g.inside g.room (g.fine nz) at in
-        let same : onward r (left bs r) ≡ onward (onward h (x ∷ [])) (accepted (onward h (x ∷ [])).number rest []) =
-        ap (onward r) done.left_is ∙ ap (λ (y : ListedEvents). onward y (accepted y.number rest [])) r_is in
-        let text : more_lines r (left bs r) ≡ more_lines (onward h (x ∷ [])) (accepted (onward h (x ∷ [])).number rest []) =
-        ap (more_lines r) done.left_is ∙ ap (λ (y : ListedEvents). more_lines y (accepted y.number rest [])) r_is in
+        let same : onward r (left bs r) ≡ onward (onward h (x ∷ [])) (unless (onward h (x ∷ [])).refusal rest []) =
+        ap (onward r) done.left_is ∙ ap (λ (y : ListedEvents). onward y (unless y.refusal rest [])) r_is in
+        let text : more_lines r (left bs r) ≡ more_lines (onward h (x ∷ [])) (unless (onward h (x ∷ [])).refusal rest []) =
+        ap (more_lines r) done.left_is ∙ ap (λ (y : ListedEvents). more_lines y (unless y.refusal rest [])) r_is in
         record {
           long = l ∙ g.long;
           whole = same ∙ after_one h x nz rest ∙ ap (onward h) (sym now) ∙ g.whole;
           text = rest_then {u = more_lines h (x ∷ [])} g.text
               (ap (more_lines h) now ∙ lines_after h x nz rest ∙ ap (λ (l : List ℕ). more_lines h (x ∷ []) ++ l) (sym text))
-              (record { written = eo ∙ ap (λ es. sets out h.count (more_lines h es)) is; behind = ap (λ (y : ListedEvents). y.count) r_is ∙ counted h (x ∷ []) });
+              (record { written = eo; behind = ap (λ (y : ListedEvents). y.count) r_is ∙ counted h (x ∷ []) });
           inside = done.inside;
           room = done.room;
           fine = done.fine;
         }
 
 -- ---- the refusals of the call
-denied : (b : Bool) → not b ≡ true → b ≡ false
-denied true e = sym e
-denied false e = refl
-
-granted : (b : Bool) → not b ≡ false → b ≡ true
-granted true e = refl
-granted false e = sym e
-
 module _ (s : Receiver) (v : EventSums) (n room : ℕ) where
   pub fault_free : block_refusal s v n room ≡ 0 → (v.points + v.lost ≤ s.place.0) × (v.gaps ≤ v.lost) × (n ≤ 65536) × (7 * n ≤ room)
   unfolding block_refusal sums_ok
@@ -228,46 +210,20 @@ module _ (s : Receiver) (v : EventSums) (n room : ℕ) where
   unfolding block_refusal
   fault_state z = next-first (state_refusal s) _ z
 
-  module _ (f : ℕ) (e : f ≡ state_refusal s) where
-    pub fault_first : (f ≡ 0 → ⊥) → f ≡ block_refusal s v n room
-    unfolding block_refusal
-    fault_first k = or_some f _ k ∙ ap (λ (m : ℕ). or_next m (need (sums_ok v s.place.0) 4 (need (leb n longest_block) 7 (need (leb (7 * n) room) 7 0)))) e
-
-    module _ (z : f ≡ 0) (b : Bool) (eb : b ≡ sums_ok v s.place.0) where
-      pub fault_sums : not b ≡ true → 4 ≡ block_refusal s v n room
-      unfolding block_refusal
-      fault_sums k = rw (← e, z, ← eb, denied b k)
-
-      module _ (k : not b ≡ false) where
-        pub fault_long : 65536 < n → 7 ≡ block_refusal s v n room
-        unfolding block_refusal
-        fault_long h = rw (← e, z, ← eb, granted b k, lt-leb n 65536 h)
-
-        pub fault_room : n ≤ 65536 → room < 7 * n → 7 ≡ block_refusal s v n room
-        unfolding block_refusal
-        fault_room h l = rw (← e, z, ← eb, granted b k, le-leb n 65536 h, lt-leb (7 * n) room l)
-
-        pub fault_none : n ≤ 65536 → 7 * n ≤ room → 0 ≡ block_refusal s v n room
-        unfolding block_refusal
-        fault_none h l = rw (← e, z, ← eb, granted b k, le-leb n 65536 h, le-leb (7 * n) room l)
-
--- sums of too many points, and others
-pub sums_over : (v : EventSums) (place : ℕ) → place < v.points → false ≡ sums_ok v place
+-- a sum that does not fit is above every place
+pub sums_within : (v : EventSums) (place n m : ℕ) → n ≡ min (v.points + v.lost) 18446744073709551615 → m ≡ place → place < 4294967296
+    → (leb n m && leb v.gaps v.lost) ≡ sums_ok v place
 unfolding sums_ok
-sums_over v place h = rw (lt-leb (v.points + v.lost) place (omega arith))
-
-pub sums_within : (v : EventSums) (place : ℕ) → v.points ≤ place → (leb v.lost (place - v.points) && leb v.gaps v.lost) ≡ sums_ok v place
-unfolding sums_ok
-sums_within v place h = ap (λ (b : Bool). b && leb v.gaps v.lost) same
+sums_within v place n m e f h = ap (λ (b : Bool). b && leb v.gaps v.lost) same
   where
-    same : leb v.lost (place - v.points) ≡ leb (v.points + v.lost) place
+    same : leb n m ≡ leb (v.points + v.lost) place
     same =
-        by_test (leb v.lost (place - v.points))
-        (λ e. let l = leb-true v.lost (place - v.points) e in e ∙ sym (le-leb (v.points + v.lost) place (omega arith)))
-        (λ e. let l = leb-false v.lost (place - v.points) e in e ∙ sym (lt-leb (v.points + v.lost) place (omega arith)))
+        by_test (leb n m)
+        (λ t. let l = leb-true n m t in t ∙ sym (le-leb (v.points + v.lost) place (omega arith)))
+        (λ t. let l = leb-false n m t in t ∙ sym (lt-leb (v.points + v.lost) place (omega arith)))
 
 -- ---- the call
-module _ (s : Receiver) (v : EventSums) (bs out : List ℕ) (n : ℕ) (en : n ≡ block_refusal s v (length bs) (length out)) where
+module _ (s : Receiver) (v : EventSums) (bs out : List ℕ) (n : Option Refusal) (en : n ≡ refusal_of (block_refusal s v (length bs) (length out))) where
   pub stream_start : s.place.0 ≤ 4294967295 → Streaming bs out out (begun s v n) (begun s v n)
   stream_start p =
       record {
@@ -276,17 +232,17 @@ module _ (s : Receiver) (v : EventSums) (bs out : List ℕ) (n : ℕ) (en : n �
         text = rest_all refl refl;
         inside = omega arith;
         room = omega arith;
-        fine = λ z. let f = fault_free s v (length bs) (length out) (sym en ∙ z) in record { few = f.2; fits = f.0; gaps_lose = f.1; place_in = p };
+        fine = λ z. let f = fault_free s v (length bs) (length out) (refusal_none _ (sym en ∙ z)) in record { few = f.2; fits = f.0; gaps_lose = f.1; place_in = p };
       }
 
   events_are : left bs (begun s v n) ≡ block_events s v bs (length out)
   unfolding block_events
-  events_are = ap (λ (m : ℕ). accepted m (events_in bs) []) en
+  events_are = ap (λ (o : Option Refusal). unless o (events_in bs) []) en ∙ unless_accepted (block_refusal s v (length bs) (length out)) (events_in bs) []
 
   pub stream_done : (h : ListedEvents) (out' : List ℕ) → (h ≡ onward (begun s v n) (left bs (begun s v n))) × (out' ≡ sets out 0 (more_lines (begun s v n) (left bs (begun s v n))))
       → (h ≡ listed_events s v bs (length out)) × (out' ≡ listed_bytes s v bs out)
   unfolding onward more_lines listed_events listed_bytes block_taken
   stream_done h out' g = (
-    g.0 ∙ ap (onward (begun s v n)) events_are ∙ same-listed _ _ refl refl (zero-add _) (zero-add _) (ap (λ (m : ℕ). or_next m (first_refused s (block_events s v bs (length out)))) en),
+    g.0 ∙ ap (onward (begun s v n)) events_are ∙ same-listed _ _ refl refl (zero-add _) (zero-add _) (ap (λ (o : Option Refusal). first_of o (refusal_of (first_refused s (block_events s v bs (length out))))) en ∙ refusal_next (block_refusal s v (length bs) (length out)) _),
     g.1 ∙ ap (λ es. sets out 0 (more_lines (begun s v n) es)) events_are,
   )

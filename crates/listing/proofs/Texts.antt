@@ -9,14 +9,14 @@ use borrow.Author.Tests.{le-leb, lt-leb}
 use lib.Dec.{leb}
 use lib.ListN.{length, get_or, take, drop, length-append}
 use lib.Seq.{sets-eq, take_at, length-take-le}
-use Rattle.line.specs.Refusal.{accepted}
+use Rattle.line.specs.declared.refusal.Refusal.{Refusal}
+use Rattle.line.specs.Refusal.{number, need, accepted}
+use Rattle.line.proofs.RefusalLaws.{some_number, left_kept}
 use Rattle.receiver.specs.declared.Receiver.{Receiver}
 use Rattle.receiver.specs.Receiver.{fresh_receiver}
 use Rattle.receiver.specs.Calls.{EachAccepted}
-use Rattle.octets.specs.Number.{u32}
-use Rattle.store.specs.Layout.{total_at}
 use Rattle.store.specs.Store.{events, total, size_ok, refusal}
-use Rattle.store.proofs.Records.{rec_byte, total-at}
+use Rattle.store.proofs.Records.{rec_byte}
 use Rattle.summing.specs.declared.EventSums.{EventSums}
 use Rattle.summing.specs.Sums.{sums_of}
 use Rattle.listing.specs.Text.{taken, lines, first_line, sum_line, chain_text, refused_line, mode_in, role_in, text, longest, list_number, list_counts, list_result}
@@ -30,22 +30,19 @@ pub accepted-text : (s : List ℕ) → refusal s ≡ 0 → text s ≡ chain_text
 unfolding text
 accepted-text s e = rw e
 
-module _ (s : List ℕ) (m role t : ℕ) (f : Receiver) (acc : refusal s ≡ 0) (em : m ≡ get_or s 4 0) (er : role ≡ get_or s 5 0) (et : t ≡ u32 s total_at) (ef : f ≡ fresh_receiver m role) where
+module _ (s : List ℕ) (m role t : ℕ) (f : Receiver) (acc : refusal s ≡ 0) (em : m ≡ get_or s 4 0) (er : role ≡ get_or s 5 0) (et : t ≡ total s) (ef : f ≡ fresh_receiver m role) where
   mode_is : m ≡ mode_in s
   mode_is = em ∙ sym (rec_byte s 0 4 (omega arith))
 
   role_is : role ≡ role_in s
   role_is = er ∙ sym (rec_byte s 0 5 (omega arith))
 
-  total_is : t ≡ total s
-  total_is = et ∙ sym (total-at s)
-
   track_text : first_line m role t ++ (lines f (map taken (events s)) ++ sum_line (sums_of (events s))) ≡ text s
   unfolding chain_text
-  track_text = rw (ef, mode_is, role_is, total_is) (sym (accepted-text s acc))
+  track_text = rw (ef, mode_is, role_is, et) (sym (accepted-text s acc))
 
   pub track_free : t ≤ 4294967295 → EachAccepted f (map taken (events s))
-  track_free h = rw (ef, mode_is, role_is) (heard-whole s acc (omega (arith, total_is)))
+  track_free h = rw (ef, mode_is, role_is) (heard-whole s acc (omega (arith, et)))
 
   pub track_room : (p : ℕ) → p ≡ 0 + length (first_line m role t) → p + length (lines f (map taken (events s))) ≤ 500000
   track_room p e =
@@ -65,16 +62,17 @@ module _ (s : List ℕ) (m role t : ℕ) (f : Receiver) (acc : refusal s ≡ 0) 
 
 -- ---- the call
 module _ (s out : List ℕ) where
-  pub list_short : length out < longest → (7 ≡ list_number (length out)) × ([] ≡ list_counts s (length out)) × (out ≡ list_result s out)
+  pub list_short : (f : Refusal) → number f ≡ need (leb longest (length out)) 7 0 → (number f ≡ list_number (length out)) × ([] ≡ list_counts s (length out)) × (out ≡ list_result s out)
   unfolding list_number list_result
-  list_short h = let e : leb longest (length out) ≡ false = lt-leb longest (length out) h in (rw e, rw e, rw e)
+  list_short f e =
+      let k : need (leb longest (length out)) 7 0 ≡ 0 → ⊥ = λ z. some_number f (e ∙ z) in
+      (e, left_kept (need (leb longest (length out)) 7 0) _ _ k, left_kept (need (leb longest (length out)) 7 0) _ _ k)
 
-  pub list_done : (out' : List ℕ) (n : ℕ) → longest ≤ length out → Wrote out 0 (text s) out' n
+  pub list_done : (out' : List ℕ) (n : ℕ) → 0 ≡ need (leb longest (length out)) 7 0 → Wrote out 0 (text s) out' n
       → (0 ≡ list_number (length out)) × (n ∷ [] ≡ list_counts s (length out)) × (out' ≡ list_result s out)
   unfolding list_number list_result
-  list_done out' n h w =
-      let e : leb longest (length out) ≡ true = le-leb longest (length out) h in
-      (rw e, rw e (ap (λ (k : ℕ). k ∷ []) (w.behind ∙ zero-add (length (text s)))), rw e w.written)
+  list_done out' n e w =
+      (e, rw (← e) (ap (λ (k : ℕ). k ∷ []) (w.behind ∙ zero-add (length (text s)))), rw (← e) w.written)
 
 -- ---- a refused store
 pub refused_text : (s : List ℕ) (k : ℕ) → k ≡ refusal s → (k ≡ 0 → ⊥) → refused_line k ≡ text s

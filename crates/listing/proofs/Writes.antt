@@ -9,12 +9,13 @@ use borrow.Author.Tests.{ltb-true, ltb-false, ne_eqb}
 use lib.Dec.{ltb}
 use lib.ListN.{length, length-append}
 use lib.Seq.{sets}
+use Rattle.std.proofs.Common.{append_assoc}
 use Rattle.line.proofs.Tests.{by_test}
 use Rattle.line.proofs.Sets.{sets_then}
 use Rattle.scrambler.specs.Bits.{bits}
 use Rattle.scrambler.specs.Group.{marked}
 use Rattle.receiver.specs.Receiver.{Answer, reference, decoded, lost}
-use Rattle.listing.specs.Text.{glyphs, line_glyphs, decimal, bits_are, blank, line_end, kind_text, line_text}
+use Rattle.listing.specs.Text.{glyphs, line_glyphs, decimal, numbers_line, bits_are, blank, line_end, kind_text, line_text}
 use Rattle.listing.specs.Wrote.{Wrote, byte_answer}
 
 -- one run after another
@@ -24,6 +25,22 @@ wrote_then {o} {o'} {o''} {u} {v} {at} {p} {q} a b =
       written = b.written ∙ ap (λ (l : List ℕ). sets l p v) a.written ∙ sets_then u v o at p (sym a.behind);
       behind = omega (arith, a.behind, b.behind, length-append u v);
     }
+
+-- the same bytes by another name
+pub wrote_as : {o o' u v : List ℕ} {at p : ℕ} → u ≡ v → Wrote o at u o' p → Wrote o at v o' p
+wrote_as {o} {o'} {u} {v} {at} {p} e a =
+    record { written = a.written ∙ ap (sets o at) e; behind = a.behind ∙ ap (λ (l : List ℕ). at + length l) e }
+
+-- the line of one number after its words
+pub number_wrote : {o o₁ o' : List ℕ} {at p₁ p : ℕ} (words : List ℕ) (n : ℕ) → Wrote o at (words ++ decimal n) o₁ p₁ → Wrote o₁ p₁ line_end o' p
+    → Wrote o at (words ++ (decimal n ++ line_end)) o' p
+number_wrote words n f e = wrote_as (append_assoc words (decimal n) line_end) (wrote_then f e)
+
+-- three numbers, each after its words
+pub numbers_wrote : {o o₁ o₂ o₃ o' : List ℕ} {at p₁ p₂ p₃ p : ℕ} (a : List ℕ) (x : ℕ) (b : List ℕ) (y : ℕ) (c : List ℕ) (z : ℕ) → Wrote o at (a ++ decimal x) o₁ p₁ → Wrote o₁ p₁ (b ++ decimal y) o₂ p₂
+    → Wrote o₂ p₂ (c ++ decimal z) o₃ p₃ → Wrote o₃ p₃ line_end o' p → Wrote o at (numbers_line a x b y c z) o' p
+unfolding numbers_line
+numbers_wrote a x b y c z f s t e = wrote_as (simp append_assoc) (wrote_then f (wrote_then s (wrote_then t e)))
 
 -- what is left to write: `rest` from p on makes `all` from `at` on
 pub record Rest (o₀ o : List ℕ) (at p : ℕ) (all rest : List ℕ) : Type 0 where
@@ -43,11 +60,6 @@ rest_then {o₀} {o} {o'} {all} {rest} {u} {v} {at} {p} {q} g e w =
 pub rest_none : {o₀ o all rest : List ℕ} {at p : ℕ} → Rest o₀ o at p all rest → rest ≡ [] → Wrote o₀ at all o p
 rest_none {o₀} {o} {all} {rest} {at} {p} g e =
     record { written = sym (ap (sets o p) e) ∙ g.written; behind = omega (arith, g.behind, ap length e) }
-
--- the same bytes by another name
-pub wrote_as : {o o' u v : List ℕ} {at p : ℕ} → u ≡ v → Wrote o at u o' p → Wrote o at v o' p
-wrote_as {o} {o'} {u} {v} {at} {p} e a =
-    record { written = a.written ∙ ap (sets o at) e; behind = a.behind ∙ ap (λ (l : List ℕ). at + length l) e }
 
 -- ---- bits
 -- what is left of the bits after k of them

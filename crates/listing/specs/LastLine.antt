@@ -1,12 +1,12 @@
 -- Lines that stand alone, as the commands `sums` and `receive` print them: the last line of a listing, of some sums, of a refusal.
-use Rattle.std.specs.Prelude.{◌≡◌, Bool, ◌&&◌, List, [], ◌∷◌, ◌++◌, ℕ, ◌-◌, ◌≤◌, leb, length, get_or}
+use Rattle.std.specs.Prelude.{◌≡◌, Bool, ◌&&◌, Result, List, [], ◌∷◌, ◌++◌, ℕ, ◌-◌, ◌≤◌, leb, length, get_or}
 use Rattle.std.proofs.lemmas.List.Edits.{sets}
-use Rattle.line.specs.Refusal.{need, accepted}
+use Rattle.line.specs.declared.refusal.Refusal.{Refusal}
+use Rattle.line.specs.Refusal.{numbered, need, accepted}
 use Rattle.store.specs.Store.{events, refusal}
 use Rattle.summing.specs.declared.EventSums.{EventSums}
 use Rattle.summing.specs.Sums.{sums_of}
-use Rattle.listing.specs.declared.Listed.{Listed}
-use Rattle.listing.specs.Text.{line_end, sum_line, refused_line, text, number_of, counts_of}
+use Rattle.listing.specs.Text.{line_end, sum_line, refused_line, text, counts_of}
 use Rattle.listing.specs.Laws.{AreBytes}
 use Rattle.listing.specs.Agreement.{lines_in}
 
@@ -31,8 +31,8 @@ unfoldable pub sum_number : EventSums → ℕ → ℕ
 sum_number v room = need (small_sums v) 4 (line_number room)
 
 -- a call that n refuses, or that else writes t at the start of the lent bytes and gives its length
-pub record Writes (n : ℕ) (t out out' : List ℕ) (r : Listed) : Type 0 where
-  pub number : number_of r ≡ n
+pub record Writes (n : ℕ) (t out out' : List ℕ) (r : Result ℕ Refusal) : Type 0 where
+  pub number : numbered r ≡ n
   pub counts : counts_of r ≡ accepted n (length t ∷ []) []
   pub bytes : out' ≡ accepted n (sets out 0 t) out
 

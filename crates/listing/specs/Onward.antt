@@ -1,6 +1,6 @@
 -- What events add to what a block gave so far: the contracts of the private functions of stream.rt.
-use Rattle.std.specs.Prelude.{List, [], map, ℕ, ◌+◌, length}
-use Rattle.line.specs.Refusal.{or_next}
+use Rattle.std.specs.Prelude.{Option, Some, None, List, [], map, ℕ, ◌+◌, length}
+use Rattle.line.specs.declared.refusal.Refusal.{Refusal}
 use Rattle.receiver.specs.declared.Receiver.{Receiver}
 use Rattle.receiver.specs.Receiver.{Answer, refused, reference, decoded, lost}
 use Rattle.receiver.specs.Calls.{after}
@@ -11,11 +11,21 @@ use Rattle.summing.specs.Sums.{sums_of, plus}
 use Rattle.capture.specs.Capture.{size}
 use Rattle.listing.specs.declared.stream.ListedEvents.{ListedEvents}
 use Rattle.listing.specs.Text.{line_text, taken, lines}
-use Rattle.listing.specs.Stream.{until_refused, first_refused}
+use Rattle.listing.specs.Stream.{until_refused, first_refused, refusal_of}
 
--- before the first event; n is the number that refuses the call
-abbrev pub begun : Receiver → EventSums → ℕ → ListedEvents
-begun s v n = record { state = s; sums = v; count = 0; used = 0; number = n }
+-- the first of two refusals
+abbrev pub first_of : Option Refusal → Option Refusal → Option Refusal
+first_of None b = b
+first_of (Some e) b = Some e
+
+-- what there is without a refusal, and with one
+abbrev pub unless : {A : Type 0} → Option Refusal → A → A → A
+unless None a b = a
+unless (Some e) a b = b
+
+-- before the first event; r is what refuses the call
+abbrev pub begun : Receiver → EventSums → Option Refusal → ListedEvents
+begun s v r = record { state = s; sums = v; count = 0; used = 0; refusal = r }
 
 -- the lines of some more events
 unfoldable pub more_lines : ListedEvents → List Event → List ℕ
@@ -30,17 +40,17 @@ onward h es =
       sums = plus h.sums (sums_of ts);
       count = h.count + length (more_lines h es);
       used = h.used + sum_over size ts;
-      number = or_next h.number (first_refused h.state es);
+      refusal = first_of h.refusal (refusal_of (first_refused h.state es));
     }
 
 -- ONE EVENT, by its answer
 
 abbrev pub stopped : ListedEvents → ℕ → ListedEvents
-stopped h n = record { state = h.state; sums = h.sums; count = h.count; used = h.used; number = n }
+stopped h n = record { state = h.state; sums = h.sums; count = h.count; used = h.used; refusal = refusal_of n }
 
 -- with the state t, the text up to `end`, b bytes more of the block, and the event's own sums
 abbrev pub further : ListedEvents → Receiver → ℕ → ℕ → EventSums → ListedEvents
-further h t end b v = record { state = t; sums = plus h.sums v; count = end; used = h.used + b; number = 0 }
+further h t end b v = record { state = t; sums = plus h.sums v; count = end; used = h.used + b; refusal = None }
 
 abbrev pub answer_text : ℕ → Answer → List ℕ
 answer_text place (refused n) = []

@@ -1,8 +1,9 @@
 -- A capture that is received and listed block by block, as the command `receive` does: the lines of its events are those of a listing, and
 -- the state and the sums go from one block to the next.
-use Rattle.std.specs.Prelude.{Bool, ◌&&◌, List, [], ◌∷◌, map, ℕ, ◌+◌, ◌*◌, leb, length}
+use Rattle.std.specs.Prelude.{Bool, ◌&&◌, Option, Some, None, List, [], ◌∷◌, map, ℕ, zero, suc, ◌+◌, ◌*◌, leb, length}
 use Rattle.std.proofs.lemmas.List.Edits.{sets}
-use Rattle.line.specs.Refusal.{need, or_next, accepted}
+use Rattle.line.specs.declared.refusal.Refusal.{Refusal}
+use Rattle.line.specs.Refusal.{named, need, or_next, accepted}
 use Rattle.receiver.specs.declared.Receiver.{Receiver}
 use Rattle.receiver.specs.Receiver.{state_refusal, refusal, next}
 use Rattle.receiver.specs.Calls.{after}
@@ -48,6 +49,11 @@ block_refusal s v n room =
 
 -- WHAT IT GIVES
 
+-- the refusal of a number, none of 0
+abbrev pub refusal_of : ℕ → Option Refusal
+refusal_of zero = None
+refusal_of (suc n) = Some (named (suc n))
+
 -- the events that it is to take: none where the call is refused
 unfoldable pub block_events : Receiver → EventSums → List ℕ → ℕ → List Event
 block_events s v bs room = accepted (block_refusal s v (length bs) room) (events_in bs) []
@@ -56,8 +62,8 @@ block_events s v bs room = accepted (block_refusal s v (length bs) room) (events
 unfoldable pub block_taken : Receiver → EventSums → List ℕ → ℕ → List Event
 block_taken s v bs room = until_refused s (block_events s v bs room)
 
--- the state after them, the sums with theirs, how many bytes their lines have and how many they have in the block; the number that refuses
--- the call, or else the event behind them
+-- the state after them, the sums with theirs, how many bytes their lines have and how many they have in the block; what refuses the call, or
+-- else the event behind them
 unfoldable pub listed_events : Receiver → EventSums → List ℕ → ℕ → ListedEvents
 listed_events s v bs room =
     let es : List Event = block_taken s v bs room in
@@ -66,7 +72,7 @@ listed_events s v bs room =
       sums = plus v (sums_of es);
       count = length (lines s (map taken es));
       used = sum_over size es;
-      number = or_next (block_refusal s v (length bs) room) (first_refused s (block_events s v bs room));
+      refusal = refusal_of (or_next (block_refusal s v (length bs) room) (first_refused s (block_events s v bs room)));
     }
 
 -- the lent bytes after the call: their lines at the start, the others as they were

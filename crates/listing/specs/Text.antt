@@ -1,6 +1,7 @@
 -- Document 01, "Listing program", and document 02, R-2: the bytes of a store's listing, in ASCII.
-use Rattle.std.specs.Prelude.{cond, List, [], ◌∷◌, ◌++◌, map, ℕ, zero, suc, ◌+◌, ◌/◌, ◌%◌, ltb, leb, length, get_or}
+use Rattle.std.specs.Prelude.{cond, Result, Ok, Err, List, [], ◌∷◌, ◌++◌, map, ℕ, zero, suc, ◌+◌, ◌/◌, ◌%◌, ltb, leb, length, get_or}
 use Rattle.std.proofs.lemmas.List.Edits.{sets}
+use Rattle.line.specs.declared.refusal.Refusal.{Refusal}
 use Rattle.line.specs.Refusal.{need, accepted}
 use Rattle.scrambler.specs.Scramble.{Datum, unsettled, settled}
 use Rattle.receiver.specs.declared.Receiver.{Receiver}
@@ -12,8 +13,6 @@ use Rattle.store.specs.Layout.{lost as lostFor}
 use Rattle.store.specs.Store.{events, total, refusal}
 use Rattle.summing.specs.declared.EventSums.{EventSums}
 use Rattle.summing.specs.Sums.{sums_of}
-use Rattle.listing.specs.declared.Listed.{Listed}
-use Rattle.listing.specs.declared.Listed.TheVariants.{Refused, Written}
 
 -- NUMBERS AND WORDS
 
@@ -145,11 +144,7 @@ list_counts s room = accepted (list_number room) (length (text s) ∷ []) []
 unfoldable pub list_result : List ℕ → List ℕ → List ℕ
 list_result s out = accepted (list_number (length out)) (sets out 0 (text s)) out
 
--- what each case of the answer says: a refusal's number, 0 for none; and how many bytes were written, where it is not refused
-abbrev pub number_of : Listed → ℕ
-number_of (Refused n) = n
-number_of (Written n) = 0
-
-abbrev pub counts_of : Listed → List ℕ
-counts_of (Refused n) = []
-counts_of (Written n) = n ∷ []
+-- how many bytes were written, where the call is not refused
+abbrev pub counts_of : Result ℕ Refusal → List ℕ
+counts_of (Err e) = []
+counts_of (Ok n) = n ∷ []

@@ -1,25 +1,26 @@
 // The listing of a track store, as text into lent bytes. Document 01, "Listing program"; document 02, R-2.
 #![tactic(auto)]
 
-ghost use Rattle.std.specs.Prelude.{◌≡◌, true, cond, map, ◌+◌, ◌*◌, ◌-◌, ◌/◌, ◌%◌, ◌^◌, ◌≤◌, ◌<◌, ltb, length, drop};
+ghost use Rattle.std.specs.Prelude.{◌≡◌, true, cond, map, ◌++◌, ◌+◌, ◌*◌, ◌-◌, ◌/◌, ◌%◌, ◌^◌, ◌≤◌, ◌<◌, ltb, length, drop};
+ghost use Rattle.line.specs.Refusal.{numbered};
 ghost use Rattle.scrambler.specs.Bits.{bits};
 ghost use Rattle.scrambler.specs.Group.{marked};
 ghost use Rattle.receiver.specs.Receiver.{fresh_receiver, reference, decoded, lost};
 ghost use Rattle.receiver.specs.Calls.{EachAccepted};
-ghost use Rattle.store.specs.Layout.{rec, points, record_ok, events_of};
-ghost use Rattle.store.specs.Store.{events, refusal};
-ghost use Rattle.summing.specs.Sums.{sums_of, Small};
-ghost use Rattle.listing.specs.Text.{decimal, glyphs, line_text, taken, lines, numbers_line, first_line, sum_line, refused_line, text, list_number, list_counts, list_result, number_of, counts_of};
+ghost use Rattle.store.specs.Layout.{points, record_ok, events_of};
+ghost use Rattle.store.specs.Store.{events};
+ghost use Rattle.summing.specs.Sums.{Small};
+ghost use Rattle.listing.specs.Text.{decimal, glyphs, line_text, taken, lines, first_line, sum_line, refused_line, text, list_number, list_counts, list_result, counts_of};
 ghost use Rattle.listing.specs.LastLine.{last_line, line_number, sum_number, Writes};
 ghost use Rattle.listing.specs.Wrote.{Wrote, Went, byte_answer, byte_lines, numbers_in};
 
-use bulk::Block;
-use octets::{get_i16, get8, get16, get32, put_all, put8};
-use receiver::{Intervals, Outcome, Receiver, Reference, receive_gap};
-use store::{FIRST_AT, TOTAL_AT};
+use line::{Refusal, need};
+use octets::{get_i16, get8, get32, put_all, put8};
+use receiver::{Intervals, Outcome, Receiver, receive_gap};
+use store::{Track, open};
 pub use stream::{ListedEvents, list_events};
 pub use summing::sums;
-use summing::{EventSums, Summed};
+use summing::{EventSums, chain_sums};
 
 mod stream; // the events of a capture, block by block
 
@@ -27,24 +28,22 @@ mod stream; // the events of a capture, block by block
 pub const LONGEST_LINE: usize = 64;
 
 // The largest number of 32 bits.
-const LARGEST: u64 = 4294967295;
+const LARGEST: u64 = u32::MAX as u64;
 
 // Bytes enough for the listing of any store.
 pub const LONGEST: usize = 372645;
 
 // ---- numbers and words
 
+// Each of the functions that write takes the lent bytes and a place in them, and gives the place behind what it wrote. A struct of both
+// would hold a `&mut`, and be no plainer: each contract would then have to say, too, that it still holds the same bytes.
+
 // How many decimal digits a number has.
+#[tactic(auto, using(crate::proofs::Digits::decimal_count))]
 fn digit_count(n: u32) -> usize
     ensures { (result ≡ length (decimal n)) × (result ≤ 10) }
 {
-    let mut k = 1;
-    let mut rest = n;
-    while 10 <= rest {
-        rest /= 10;
-        k += 1;
-    }
-    k
+    n.max(1).ilog10() as usize + 1
 }
 
 // A number's digits, the last first; the place behind them.
@@ -53,11 +52,9 @@ fn put_decimal(out: &mut [u8], at: usize, n: u32) -> usize
     ensures { Wrote out.old at (decimal n) out.new result × (result ≤ at + 10) }
 {
     let end = at + digit_count(n);
-    let mut i = end;
     let mut rest = n;
-    while at < i {
-        i -= 1;
-        put8(out, i, 48 + (rest % 10) as u8);
+    for i in (at..end).rev() {
+        put8(out, i, b'0' + (rest % 10) as u8);
         rest /= 10;
     }
     end
@@ -72,6 +69,15 @@ fn put_text(out: &mut [u8], at: usize, words: &[u8]) -> usize
     at + words.len()
 }
 
+// A number after its words; the place behind it.
+fn put_number(out: &mut [u8], at: usize, words: &[u8], n: u32) -> usize
+    requires { (at ≤ 950000) × (length words.now ≤ 20) }
+    ensures { Wrote out.old at (words.now ++ decimal n) out.new result × (result ≤ at + length words.now + 10) }
+{
+    let digits = put_text(out, at, words);
+    put_decimal(out, digits, n)
+}
+
 // ---- the line of an event
 
 // The glyph of bit k out of the lowest w bits of a number, the highest being bit 0.
@@ -82,7 +88,7 @@ fn glyph_at(w: u8, v: u8, unsettled: u8, k: u8) -> u8
     if k < unsettled {
         return b'-';
     }
-    48 + (v >> (w - 1 - k) as u32) % 2
+    b'0' + (v >> (w - 1 - k) as u32) % 2
 }
 
 // The lowest w bits of a number, the highest first, the first `unsettled` of them as marks; the place behind them.
@@ -90,10 +96,8 @@ fn put_bits(out: &mut [u8], at: usize, w: u8, v: u8, unsettled: u8) -> usize
     requires { (at ≤ 1000000) × (w ≤ 4) }
     ensures { Wrote out.old at (glyphs (marked unsettled (bits w v))) out.new result × (result ≤ at + 4) }
 {
-    let mut k = 0;
-    while k < w {
+    for k in 0..w {
         put8(out, at + k as usize, glyph_at(w, v, unsettled, k));
-        k += 1;
     }
     at + w as usize
 }
@@ -134,8 +138,7 @@ fn put_lost(out: &mut [u8], at: usize, place: u32, n: u32) -> usize
     ensures { Wrote out.old at (line_text place (lost n)) out.new result × (result ≤ at + 30) }
 {
     let kind = put_decimal(out, at, place);
-    let count = put_text(out, kind, b" lost ");
-    let end = put_decimal(out, count, n);
+    let end = put_number(out, kind, b" lost ", n);
     put_text(out, end, b"\n")
 }
 
@@ -160,10 +163,8 @@ fn put_lines(out: &mut [u8], at: usize, place: u32, w: u8, line: &[u8], plain: &
     ensures { Wrote out.old at (byte_lines w place line.now plain.now) out.new result }
 {
     let mut p = at;
-    let mut k = 0;
-    while k < line.len() {
+    for k in 0..line.len() {
         p = put_point(out, p, place + k as u32, w, line[k], plain[k]);
-        k += 1;
     }
     p
 }
@@ -181,11 +182,9 @@ struct Progress {
 fn numbers_of(r: &[u8]) -> [i16; 14]
     ensures { result ≡ numbers_in (drop 4 r.now) 14 }
 {
-    let mut numbers = [0i16; 14];
-    let mut k = 0;
-    while k < 14 {
+    let mut numbers = [0; 14];
+    for k in 0..14 {
         numbers[k] = get_i16(r, 4 + 2 * k);
-        k += 1;
     }
     numbers
 }
@@ -201,15 +200,13 @@ fn put_points(r: &[u8], n: usize, out: &mut [u8], from: Progress) -> Progress
     let mut plain = [0u8; 7];
     let mut distance = [0u32; 7];
     let m = 2 * n;
-    let b = bulk::receive_points(s, &numbers[..m], &mut line, &mut plain, &mut distance);
-    match b {
-        Block::Refused(_) => from,
-        Block::Taken(t) => {
-            let w = line::width_of(s.mode);
-            let at = put_lines(out, from.at, s.place.0, w, &line[..n], &plain[..n]);
-            Progress { at, state: t }
-        }
-    }
+    let taken = bulk::receive_points(s, &numbers[..m], &mut line, &mut plain, &mut distance);
+    let Ok(state) = taken else {
+        return from;
+    };
+    let w = line::width_of(s.mode);
+    let at = put_lines(out, from.at, s.place.0, w, &line[..n], &plain[..n]);
+    Progress { at, state }
 }
 
 // The events of a record. A loss is answered as a gap: that it is refused is ruled out as well.
@@ -223,78 +220,35 @@ fn put_record(r: &[u8], out: &mut [u8], from: Progress) -> Progress
     let s = from.state;
     let n = get32(r, 4) as u32;
     let o = receive_gap(s, n);
-    let Outcome::Gap(_, t) = o else {
+    let Ok(Outcome::Gap(_, state)) = o else {
         return from;
     };
     let at = put_lost(out, from.at, s.place.0, n);
-    Progress { at, state: t }
-}
-
-// Record i.
-fn record_at(s: &[u8], i: usize) -> &[u8]
-    requires { 32 * i + 32 ≤ length s.now }
-    ensures { result.now ≡ rec s.now i }
-{
-    let at = 32 * i;
-    let end = at + 32;
-    &s[at..end]
+    Progress { at, state }
 }
 
 // The events of an accepted store's chain; the place behind them.
-fn put_chain(s: &[u8], out: &mut [u8], at: usize, state: Receiver) -> usize
-    requires { (refusal s.now ≡ 0) × EachAccepted state (map taken (events s.now)) × (at + length (lines state (map taken (events s.now))) ≤ 500000) }
-    ensures { Wrote out.old at (lines state (map taken (events s.now))) out.new result }
+fn put_chain(track: Track, out: &mut [u8], at: usize, state: Receiver) -> usize
+    requires { EachAccepted state (map taken (events track.bytes.now)) × (at + length (lines state (map taken (events track.bytes.now))) ≤ 500000) }
+    ensures { Wrote out.old at (lines state (map taken (events track.entry.bytes.now))) out.new result }
 {
     let mut p = Progress { at, state };
-    let mut k: usize = 0;
-    let mut i = get16(s, FIRST_AT);
-    while i != 0 {
-        p = put_record(record_at(s, i), out, p);
-        k += 1;
-        i = get16(s, 32 * i);
+    for record in track.records() {
+        p = put_record(record, out, p);
     }
     p.at
 }
 
 // ---- the listing
 
-// A line of three numbers, each after its words; the place behind it.
-fn put_numbers(
-    out: &mut [u8],
-    at: usize,
-    a: &[u8],
-    x: u32,
-    b: &[u8],
-    y: u32,
-    c: &[u8],
-    z: u32,
-) -> usize
-    requires { (at ≤ 500000) × (length a.now ≤ 100) × (length b.now ≤ 100) × (length c.now ≤ 100) }
-    ensures { Wrote out.old at (numbers_line a.now x b.now y c.now z) out.new result }
-{
-    let p = put_text(out, at, a);
-    let p = put_decimal(out, p, x);
-    let p = put_text(out, p, b);
-    let p = put_decimal(out, p, y);
-    let p = put_text(out, p, c);
-    let p = put_decimal(out, p, z);
-    put_text(out, p, b"\n")
-}
-
 // Mode, role and total; the place behind them.
 fn put_first(out: &mut [u8], mode: u8, role: u8, total: u32) -> usize
     ensures { Wrote out.old 0 (first_line mode role total) out.new result }
 {
-    put_numbers(
-        out,
-        0,
-        b"track mode ",
-        mode as u32,
-        b" role ",
-        role as u32,
-        b" total ",
-        total,
-    )
+    let at = put_number(out, 0, b"track mode ", u32::from(mode));
+    let at = put_number(out, at, b" role ", u32::from(role));
+    let at = put_number(out, at, b" total ", total);
+    put_text(out, at, b"\n")
 }
 
 // The line of the sums; the place behind it.
@@ -302,16 +256,10 @@ fn put_sums(out: &mut [u8], at: usize, v: EventSums) -> usize
     requires { (at ≤ 500000) × Small v }
     ensures { Wrote out.old at (sum_line v) out.new result }
 {
-    put_numbers(
-        out,
-        at,
-        b"sum points ",
-        v.points as u32,
-        b" lost ",
-        v.lost as u32,
-        b" gaps ",
-        v.gaps as u32,
-    )
+    let at = put_number(out, at, b"sum points ", v.points as u32);
+    let at = put_number(out, at, b" lost ", v.lost as u32);
+    let at = put_number(out, at, b" gaps ", v.gaps as u32);
+    put_text(out, at, b"\n")
 }
 
 // A receiver that has taken nothing, of a mode and role that an accepted store has: what `receiver::fresh` refuses is ruled out.
@@ -321,93 +269,69 @@ fn fresh_state(mode: u8, role: u8) -> Receiver
     Receiver {
         mode,
         role,
-        reference: Reference::Nothing,
+        reference: None,
         line: scrambler::fresh_register(),
         place: Intervals(0),
     }
 }
 
-// The listing of an accepted store, whose sums are v; its length.
-fn put_track(s: &[u8], out: &mut [u8], v: EventSums) -> usize
-    requires { (refusal s.now ≡ 0) × (v ≡ sums_of (events s.now)) × Small v }
-    ensures { Wrote out.old 0 (text s.now) out.new result }
+// The listing of an accepted store; its length.
+fn put_track(track: Track, out: &mut [u8]) -> usize
+    ensures { Wrote out.old 0 (text track.entry.bytes.now) out.new result }
 {
-    let mode = get8(s, 4) as u8;
-    let role = get8(s, 5) as u8;
-    let at = put_first(out, mode, role, get32(s, TOTAL_AT) as u32);
-    let end = put_chain(s, out, at, fresh_state(mode, role));
-    put_sums(out, end, v)
+    let mode = track.mode();
+    let role = track.role();
+    let at = put_first(out, mode, role, track.total());
+    let end = put_chain(track, out, at, fresh_state(mode, role));
+    put_sums(out, end, chain_sums(track))
 }
 
 // The one line of a refused store; its length.
 fn put_refused(out: &mut [u8], number: u8) -> usize
     ensures { Wrote out.old 0 (refused_line number) out.new result }
 {
-    let at = put_text(out, 0, b"refused ");
-    let digits_end = put_decimal(out, at, number as u32);
-    put_text(out, digits_end, b"\n")
+    let end = put_number(out, 0, b"refused ", u32::from(number));
+    put_text(out, end, b"\n")
 }
 
-// What listing gives: the number that refuses it, or the length of the text.
-#[derive(Clone, Copy)]
-pub enum Listed {
-    Refused(u8),
-    Written(usize),
-}
-
-// Lists a store of any length: its text stands at the start of the lent bytes.
-pub fn list(store: &[u8], out: &mut [u8]) -> Listed
-    ensures { (number_of result ≡ list_number (length out.old)) × (counts_of result ≡ list_counts store.now (length out.old)) × (out.new ≡ list_result store.now out.old) }
+// Lists a store of any length: its text stands at the start of the lent bytes; its length.
+pub fn list(store: &[u8], out: &mut [u8]) -> Result<usize, Refusal>
+    ensures { (numbered result ≡ list_number (length out.old)) × (counts_of result ≡ list_counts store.now (length out.old)) × (out.new ≡ list_result store.now out.old) }
 {
-    if out.len() < LONGEST {
-        return Listed::Refused(7);
-    }
-    match sums(store) {
-        Summed::Refused(number) => Listed::Written(put_refused(out, number)),
-        Summed::Sums(v) => Listed::Written(put_track(store, out, v)),
+    need(LONGEST <= out.len(), Refusal::Lent)?;
+    match open(store) {
+        Err(refusal) => Ok(put_refused(out, refusal.number())),
+        Ok(track) => Ok(put_track(track, out)),
     }
 }
 
 // ---- lines that stand alone
 
 // The last line of a store's listing.
-pub fn sum_text(store: &[u8], out: &mut [u8]) -> Listed
+pub fn sum_text(store: &[u8], out: &mut [u8]) -> Result<usize, Refusal>
     ensures { Writes (line_number (length out.old)) (last_line store.now) out.old out.new result }
 {
-    if out.len() < LONGEST_LINE {
-        return Listed::Refused(7);
-    }
-    match sums(store) {
-        Summed::Refused(fault) => Listed::Written(put_refused(out, fault)),
-        Summed::Sums(v) => Listed::Written(put_sums(out, 0, v)),
+    need(LONGEST_LINE <= out.len(), Refusal::Lent)?;
+    match open(store) {
+        Err(fault) => Ok(put_refused(out, fault.number())),
+        Ok(track) => Ok(put_sums(out, 0, chain_sums(track))),
     }
 }
 
 // The line of some sums.
-pub fn sum_line(v: EventSums, out: &mut [u8]) -> Listed
+pub fn sum_line(v: EventSums, out: &mut [u8]) -> Result<usize, Refusal>
     ensures { Writes (sum_number v (length out.old)) (sum_line v) out.old out.new result }
 {
-    if LARGEST < v.points {
-        return Listed::Refused(4);
-    }
-    if LARGEST < v.lost {
-        return Listed::Refused(4);
-    }
-    if LARGEST < v.gaps {
-        return Listed::Refused(4);
-    }
-    if out.len() < LONGEST_LINE {
-        return Listed::Refused(7);
-    }
-    Listed::Written(put_sums(out, 0, v))
+    let small = (v.points <= LARGEST) & (v.lost <= LARGEST) & (v.gaps <= LARGEST);
+    need(small, Refusal::State)?;
+    need(LONGEST_LINE <= out.len(), Refusal::Lent)?;
+    Ok(put_sums(out, 0, v))
 }
 
-// The line of a refusal.
-pub fn refused_line(n: u8, out: &mut [u8]) -> Listed
+// The line of a refusal, for each number: the commands have one of their own, too.
+pub fn refused_line(n: u8, out: &mut [u8]) -> Result<usize, Refusal>
     ensures { Writes (line_number (length out.old)) (refused_line n) out.old out.new result }
 {
-    if out.len() < LONGEST_LINE {
-        return Listed::Refused(7);
-    }
-    Listed::Written(put_refused(out, n))
+    need(LONGEST_LINE <= out.len(), Refusal::Lent)?;
+    Ok(put_refused(out, n))
 }

@@ -1,15 +1,17 @@
 // The events of a capture, received and listed block by block.
-ghost use Rattle.std.specs.Prelude.{◌≡◌, ◌+◌, ◌≤◌, length};
+ghost use Rattle.std.specs.Prelude.{◌≡◌, None, [], ◌∷◌, ◌+◌, ◌≤◌, length};
 ghost use Rattle.std.proofs.lemmas.List.Edits.{sets};
 ghost use Rattle.line.specs.Mode.{width};
+ghost use Rattle.line.specs.Refusal.{numbered};
 ghost use Rattle.receiver.specs.Outcome.{answer_of, state_of};
 ghost use Rattle.summing.specs.Sums.{Small};
-ghost use Rattle.capture.specs.Capture.{told};
+ghost use Rattle.capture.specs.Capture.{event_of};
 ghost use Rattle.listing.specs.Stream.{sums_ok, block_refusal, listed_events, listed_bytes};
 ghost use Rattle.listing.specs.Onward.{more_lines, onward, further, answer_text, answered};
 
 use super::{put_group, put_lost, put_reference};
-use capture::{Next, next_event};
+use capture::{Event, next_event};
+use line::{Refusal, need};
 use receiver::{Outcome, Receiver, receive_gap, receive_point};
 use summing::EventSums;
 
@@ -17,49 +19,36 @@ use summing::EventSums;
 pub const LONGEST_BLOCK: usize = 65536;
 
 // What the events of a block, and of those before it, give: the receiver after them and their sums. Of the block alone: how many bytes of
-// text they have, how many bytes of the block, and the number that refuses the call or the event behind them, 0 for none.
+// text they have, how many bytes of the block, and what refuses the call or the event behind them.
 #[derive(Clone, Copy)]
 pub struct ListedEvents {
     pub state: Receiver,
     pub sums: EventSums,
     pub count: usize,
     pub used: usize,
-    pub number: u8,
+    pub refusal: Option<Refusal>,
 }
 
 // Whether sums are of what a receiver took up to a place.
 fn sums_ok(v: EventSums, place: u32) -> bool
     ensures { result ≡ sums_ok v place }
 {
-    let intervals = place as u64;
-    let points = v.points;
-    if intervals < points {
-        return false;
-    }
-    (v.lost <= intervals - points) & (v.gaps <= v.lost)
+    (v.points.saturating_add(v.lost) <= u64::from(place)) & (v.gaps <= v.lost)
 }
 
-// The number that refuses a call with n bytes of a capture and so many lent ones.
-fn block_fault(s: Receiver, v: EventSums, n: usize, room: usize) -> u8
-    ensures { result ≡ block_refusal s v n room }
+// What refuses a call with n bytes of a capture and so many lent ones.
+#[tactic(auto, unfolding(crate::specs::Stream::block_refusal))]
+fn block_fault(s: Receiver, v: EventSums, n: usize, room: usize) -> Result<(), Refusal>
+    ensures { numbered result ≡ block_refusal s v n room }
 {
-    let fault = receiver::state_fault(s);
-    if fault != 0 {
-        return fault;
-    }
-    if !sums_ok(v, s.place.0) {
-        return 4;
-    }
-    if LONGEST_BLOCK < n {
-        return 7;
-    }
-    if room < 7 * n {
-        return 7;
-    }
-    0
+    receiver::state_fault(s)?;
+    need(sums_ok(v, s.place.0), Refusal::State)?;
+    need(n <= LONGEST_BLOCK, Refusal::Lent)?;
+    need(7 * n <= room, Refusal::Lent)
 }
 
-// One event further: the state after it, the text's end, its bytes in the block, and its sums.
+// One event further: the state after it, the text's end, its bytes in the block, and its sums. They are added here and in
+// `summing::added`: a public function for both could ask for no room, and would be no plainer.
 fn further(
     h: ListedEvents,
     state: Receiver,
@@ -79,12 +68,17 @@ fn further(
         },
         count,
         used: h.used + bytes,
-        number: 0,
+        refusal: None,
     }
 }
 
-// What a receiver gave for an event: its line is written, or the number that refuses it kept.
-fn list_outcome(out: &mut [u8], h: ListedEvents, o: Outcome, bytes: usize) -> ListedEvents
+// What a receiver gave for an event: its line is written, or what refuses it kept.
+fn list_outcome(
+    out: &mut [u8],
+    h: ListedEvents,
+    o: Result<Outcome, Refusal>,
+    bytes: usize,
+) -> ListedEvents
     requires { (h.count ≤ 500000) × (h.used ≤ 65536) × (bytes ≤ 8) × Small h.sums }
     ensures { (result ≡ answered h (answer_of (width h.state.mode) o) (state_of h.state o) bytes) × (out.new ≡ sets out.old h.count (answer_text h.state.place.0 (answer_of (width h.state.mode) o))) }
 {
@@ -97,21 +91,20 @@ fn list_outcome(out: &mut [u8], h: ListedEvents, o: Outcome, bytes: usize) -> Li
         gaps: 0,
     };
     match o {
-        Outcome::Refused(number) => {
-            let mut stopped = h;
-            stopped.number = number;
-            stopped
-        }
-        Outcome::Referenced(_, t) => {
+        Err(refusal) => ListedEvents {
+            refusal: Some(refusal),
+            ..h
+        },
+        Ok(Outcome::Referenced(_, t)) => {
             let end = put_reference(out, at, place);
             further(h, t, end, bytes, point)
         }
-        Outcome::Bits(g, _, t) => {
+        Ok(Outcome::Bits(g, _, t)) => {
             let w = line::width_of(s.mode);
             let end = put_group(out, at, place, w, g.line, g.plain, g.unsettled.0);
             further(h, t, end, bytes, point)
         }
-        Outcome::Gap(n, t) => {
+        Ok(Outcome::Gap(n, t)) => {
             let end = put_lost(out, at, place, n.0);
             let gap = EventSums {
                 points: 0,
@@ -123,19 +116,18 @@ fn list_outcome(out: &mut [u8], h: ListedEvents, o: Outcome, bytes: usize) -> Li
     }
 }
 
-// An event of a capture, if there is one.
-fn list_event(out: &mut [u8], h: ListedEvents, e: Next) -> ListedEvents
-    requires { (h.count ≤ 500000) × (h.used ≤ 65536) × (h.number ≡ 0) × Small h.sums }
-    ensures { (result ≡ onward h (told e)) × (out.new ≡ sets out.old h.count (more_lines h (told e))) }
+// An event of a capture.
+fn list_event(out: &mut [u8], h: ListedEvents, e: Event) -> ListedEvents
+    requires { (h.count ≤ 500000) × (h.used ≤ 65536) × (h.refusal ≡ None) × Small h.sums }
+    ensures { (result ≡ onward h (event_of e ∷ [])) × (out.new ≡ sets out.old h.count (more_lines h (event_of e ∷ []))) }
 {
     let s = h.state;
     match e {
-        Next::Short => h,
-        Next::Point(re, im) => {
+        Event::Point(re, im) => {
             let o = receive_point(s, re, im);
             list_outcome(out, h, o, 4)
         }
-        Next::Lost(n) => {
+        Event::Lost(n) => {
             let o = receive_gap(s, n);
             list_outcome(out, h, o, 8)
         }
@@ -152,15 +144,13 @@ pub fn list_events(s: Receiver, v: EventSums, input: &[u8], out: &mut [u8]) -> L
         sums: v,
         count: 0,
         used: 0,
-        number: fault,
+        refusal: fault.err(),
     };
-    while h.number == 0 {
-        let at = h.used;
-        let e = next_event(input, at);
-        if let Next::Short = e {
+    while h.refusal.is_none() {
+        let Some(event) = next_event(input, h.used) else {
             return h;
-        }
-        h = list_event(out, h, e);
+        };
+        h = list_event(out, h, event);
     }
     h
 }

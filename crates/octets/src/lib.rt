@@ -5,39 +5,34 @@ ghost use Rattle.std.specs.Prelude.{◌≡◌, [], ◌∷◌, ◌<◌, min, leng
 ghost use Rattle.std.proofs.lemmas.List.Edits.{sets};
 ghost use Rattle.octets.specs.Number.{u16, u32, le16, le32, pattern, signed, i16, zeros};
 
-fn wide(x: u8) -> usize
-    ensures { (result ≡ x) × (result < 256) }
-{
-    x as usize
-}
-
 pub fn get8(s: &[u8], at: usize) -> usize
     ensures { (result ≡ get_or s.now at 0) × (result < 256) }
 {
-    if at < s.len() {
-        return wide(s[at]);
-    }
-    0
+    usize::from(s.get(at).copied().unwrap_or(0))
 }
 
+// A number is read and written by its bytes and halves, since the bytes may end inside it: std's `from_le_bytes` takes a whole array.
 pub fn get16(s: &[u8], at: usize) -> usize
     ensures { (result ≡ u16 s.now at) × (result < 65536) }
 {
     if at < s.len() {
-        return get8(s, at) + 256 * get8(s, at + 1);
+        get8(s, at) + 256 * get8(s, at + 1)
+    } else {
+        0
     }
-    0
 }
 
 pub fn get32(s: &[u8], at: usize) -> usize
     ensures { (result ≡ u32 s.now at) × (result < 4294967296) }
 {
     if at < s.len() {
-        return get16(s, at) + 65536 * get16(s, at + 2);
+        get16(s, at) + 65536 * get16(s, at + 2)
+    } else {
+        0
     }
-    0
 }
 
+// By the index: of a write through `get_mut` no fact comes back.
 pub fn put8(s: &mut [u8], at: usize, v: u8)
     ensures { s.new ≡ sets s.old at (v ∷ []) }
 {
@@ -46,6 +41,7 @@ pub fn put8(s: &mut [u8], at: usize, v: u8)
     }
 }
 
+// The two bytes as `le16` has them: for `to_le_bytes` the number would first be cut to 16 bits.
 pub fn put16(s: &mut [u8], at: usize, v: usize)
     ensures { s.new ≡ sets s.old at (le16 v) }
 {
@@ -68,21 +64,13 @@ pub fn put32(s: &mut [u8], at: usize, v: usize)
 pub fn pattern_of(x: i16) -> usize
     ensures { (result ≡ pattern x) × (result < 65536) }
 {
-    if 0 <= x {
-        x as usize
-    } else {
-        (65536 + (x as i32)) as usize
-    }
+    usize::from(x.cast_unsigned())
 }
 
 pub fn signed_of(u: u16) -> i16
     ensures { result ≡ signed u }
 {
-    if u < 32768 {
-        u as i16
-    } else {
-        ((u as i32) - 65536) as i16
-    }
+    u.cast_signed()
 }
 
 pub fn get_i16(s: &[u8], at: usize) -> i16
@@ -91,15 +79,15 @@ pub fn get_i16(s: &[u8], at: usize) -> i16
     signed_of(get16(s, at) as u16)
 }
 
-// Whether the bytes of `s` from `at` on are zero. Every byte is looked at, so that many are compared at once.
+// Whether the bytes of `s` from `at` on are zero. Every byte is looked at, so that many are compared at once. (Why the loop is its own: `line::all_in_range`.)
 pub fn zero_from(s: &[u8], at: usize) -> bool
     ensures { result ≡ zeros (drop at s.now) }
 {
     let mut clear = true;
-    let mut i = at;
-    while i < s.len() {
-        clear = clear & (s[i] == 0);
-        i += 1;
+    if let Some(rest) = s.get(at..) {
+        for x in rest {
+            clear &= *x == 0;
+        }
     }
     clear
 }
@@ -107,30 +95,15 @@ pub fn zero_from(s: &[u8], at: usize) -> bool
 pub fn clear(s: &mut [u8])
     ensures { s.new ≡ replicate (length s.old) 0 }
 {
-    let mut i = 0;
-    while i < s.len() {
-        s[i] = 0;
-        i += 1;
-    }
-}
-
-fn lesser(a: usize, b: usize) -> usize
-    ensures { result ≡ min a b }
-{
-    if a < b { a } else { b }
+    s.fill(0);
 }
 
 // The bytes of `r` into `s` from `at` on.
 pub fn put_all(s: &mut [u8], at: usize, r: &[u8])
     ensures { s.new ≡ sets s.old at r.now }
 {
-    if s.len() <= at {
-        return;
-    }
-    let n = lesser(s.len() - at, r.len());
-    let mut k = 0;
-    while k < n {
-        s[at + k] = r[k];
-        k += 1;
+    if at < s.len() {
+        let n = r.len().min(s.len() - at);
+        s[at..at + n].copy_from_slice(&r[..n]);
     }
 }

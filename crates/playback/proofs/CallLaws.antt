@@ -12,21 +12,21 @@ use lib.IntN.{ℤ}
 use lib.ListN.{length, take, drop}
 use lib.Seq.{sets, sets-eq, take-append_seam}
 use Rattle.line.specs.Mode.{column, width}
-use Rattle.line.specs.Refusal.{need, or_next, accepted, mode_refusal}
+use Rattle.line.specs.Refusal.{named, answered, need, or_next, accepted, mode_refusal}
 use Rattle.line.specs.Table.{every}
 use Rattle.line.proofs.ByMode.{mode_short, mode_long, width_range}
 use Rattle.line.proofs.Tests.{and_split, lt_or_ge}
 use Rattle.scrambler.specs.Bits.{is_bit}
 use Rattle.training.specs.Training.{reversals, changes, intervals}
 use Rattle.sender.specs.declared.Sender.{Sender}
-use Rattle.sender.specs.declared.Sent.{Sent}
-use Rattle.sender.specs.declared.Sent.TheVariants as sent
-use Rattle.sender.specs.Sender.{has_room, state_refusal, data_refusal, send_refusal, after_bits, bit_numbers, answered, send_answer, send_numbers}
+use Rattle.std.specs.Prelude.{Result, Ok, Err}
+use Rattle.line.specs.declared.refusal.Refusal.{Refusal}
+use Rattle.line.specs.declared.refusal.Refusal.TheVariants.{Lent}
+use Rattle.sender.specs.Sender.{has_room, state_refusal, data_refusal, send_refusal, after_bits, bit_numbers, send_answer, send_numbers}
 use Rattle.sender.proofs.OpenLaws.{open_ok}
 use Rattle.sender.proofs.RefusalLaws.{send_ok}
 use Rattle.sender.specs.Open.{length_ok, open_refusal, opened, training_numbers, open_answer, open_numbers}
 use Rattle.playback.specs.declared.Played.{Played}
-use Rattle.playback.specs.declared.Played.TheVariants.{Refused, Ready}
 use Rattle.playback.specs.Playback.{played, played_bytes, room_refusal, open_fault, open_played, open_bytes, sent_bits, send_fault, send_played, send_bytes}
 use Rattle.playback.proofs.BlockLaws.{length_training, length-bits, sent-groups}
 
@@ -38,22 +38,18 @@ front vs l n e h =
     ∙ take-append_seam vs (drop (0 + length vs) l)
 
 -- what a call of the sender with the number k, which would hand on t, says by its answer
-refused_by_lem : (k j : ℕ) (t : Sender) → answered k t ≡ sent.Refused j → (j ≡ k) × (k ≡ 0 → ⊥)
-refused_by_lem zero j t e = absurd (let q : ◌≡◌ {A = ℕ} 0 1 = cc in omega arith)
-refused_by_lem (suc k) j t e = (cc, λ z. omega arith)
-
-ready_by : (k : ℕ) (t u : Sender) → answered k t ≡ sent.Ready u → (u ≡ t) × (k ≡ 0)
+ready_by : (k : ℕ) (t u : Sender) → answered k t ≡ Ok u → (u ≡ t) × (k ≡ 0)
 ready_by zero t u e = (cc, refl)
 ready_by (suc k) t u e = absurd (let q : ◌≡◌ {A = ℕ} 0 1 = cc in omega arith)
 
 -- a call in two steps: the sender's number k, then the number c
 module _ (n k c : ℕ) (t : Sender) (vs : List ℤ) (out : List ℕ) (e : n ≡ or_next k c) where
-  call_refused : (j : ℕ) → answered k t ≡ sent.Refused j → (Refused j ≡ played n t vs) × (out ≡ played_bytes n vs out)
-  call_refused j a = go k e (refused_by_lem k j t a).0 (refused_by_lem k j t a).1
+  call_refused : (j : Refusal) → answered k t ≡ Err j → (Err j ≡ played n t vs) × (out ≡ played_bytes n vs out)
+  call_refused j a = go k e a
     where
-      go : (i : ℕ) → n ≡ or_next i c → j ≡ i → (i ≡ 0 → ⊥) → (Refused j ≡ played n t vs) × (out ≡ played_bytes n vs out)
-      go zero p q z = absurd (z refl)
-      go (suc i) p q z = (rw p (ap Refused q), rw p)
+      go : (i : ℕ) → n ≡ or_next i c → answered i t ≡ Err j → (Err j ≡ played n t vs) × (out ≡ played_bytes n vs out)
+      go zero p q = absurd (let z : ◌≡◌ {A = ℕ} 0 1 = cc in omega arith)
+      go (suc i) p q = let is : named (suc i) ≡ j = cc in (rw p (ap Err (sym is)), rw p)
 
   call_goes_on : k ≡ 0 → n ≡ c
   call_goes_on z = e ∙ ap (λ (i : ℕ). or_next i c) z
@@ -65,12 +61,12 @@ unfolding room_refusal
 room_small count lent h = rw (le-leb count (lent / 2) h)
 
 pub handed : (t : Sender) (zs : List ℤ) (out next : List ℕ) → length zs ≤ length out / 2 → next ≡ played_bytes 0 zs out
-    → (Ready t (2 * length zs) ≡ played (room_refusal (length zs) (length out)) t zs) × (next ≡ played_bytes (room_refusal (length zs) (length out)) zs out)
+    → (Ok (record { next = t; count = 2 * length zs }) ≡ played (room_refusal (length zs) (length out)) t zs) × (next ≡ played_bytes (room_refusal (length zs) (length out)) zs out)
 handed t zs out next h e = let z = room_small (length zs) (length out) h in (rw z, e ∙ rw z)
 
 pub not_handed : (t : Sender) (zs : List ℤ) (out : List ℕ) → length out / 2 < length zs
-    → (Refused 7 ≡ played (room_refusal (length zs) (length out)) t zs) × (out ≡ played_bytes (room_refusal (length zs) (length out)) zs out)
-unfolding room_refusal
+    → (Err Lent ≡ played (room_refusal (length zs) (length out)) t zs) × (out ≡ played_bytes (room_refusal (length zs) (length out)) zs out)
+unfolding room_refusal named
 not_handed t zs out h = let z = lt-leb (length zs) (length out / 2) h in (rw z, rw z)
 
 -- OPENING
@@ -113,25 +109,25 @@ module _ (m role n : ℕ) where
       ∙ ap (λ (c : ℕ). or_next (open_refusal m role n 16928 0) (need (leb c (lent / 2)) 7 0)) (zero-add (2 * intervals m n))
 
   -- the sender opened with the numbers l, as many as the longest training has; r is what it answered
-  module _ (l : List ℤ) (r : Sent) (size : length l ≡ 16928) (a : r ≡ open_answer m role n (length l) 0) where
-    open_said : (x : Sent) → r ≡ x → answered (open_refusal m role n 16928 0) (opened m role n) ≡ x
+  module _ (l : List ℤ) (r : Result Sender Refusal) (size : length l ≡ 16928) (a : r ≡ open_answer m role n (length l) 0) where
+    open_said : (x : Result Sender Refusal) → r ≡ x → answered (open_refusal m role n 16928 0) (opened m role n) ≡ x
     unfolding open_answer
     open_said x e = ap (λ (k : ℕ). answered (open_refusal m role n k 0) (opened m role n)) (sym size) ∙ sym a ∙ e
 
-    pub open_refused : (j : ℕ) (out : List ℕ) → r ≡ sent.Refused j → (Refused j ≡ open_played m role n (length out)) × (out ≡ open_bytes m role n out)
+    pub open_refused : (j : Refusal) (out : List ℕ) → r ≡ Err j → (Err j ≡ open_played m role n (length out)) × (out ≡ open_bytes m role n out)
     unfolding open_played open_bytes
     open_refused j out e =
         call_refused (open_fault m role n (length out)) (open_refusal m role n 16928 0) (room_refusal (2 * intervals m n) (length out)) (opened m role n) (training_numbers m role n) out
-        (open_two (length out)) j (open_said (sent.Refused j) e)
+        (open_two (length out)) j (open_said (Err j) e)
 
-    module _ (t : Sender) (e : r ≡ sent.Ready t) where
+    module _ (t : Sender) (e : r ≡ Ok t) where
       open_free : (t ≡ opened m role n) × (open_refusal m role n 16928 0 ≡ 0)
-      open_free = ready_by (open_refusal m role n 16928 0) (opened m role n) t (open_said (sent.Ready t) e)
+      open_free = ready_by (open_refusal m role n 16928 0) (opened m role n) t (open_said (Ok t) e)
 
       pub open_fits : (k : ℕ) → k ≡ intervals m n → 2 * k ≤ 16928
       open_fits k h = omega (arith, (open_ok m role n 16928 0 open_free.1).room)
 
-      pub open_done : (k : ℕ) (zs : List ℤ) (out next : List ℕ) (p : Played) → k ≡ intervals m n → zs ≡ open_numbers m role n l 0
+      pub open_done : (k : ℕ) (zs : List ℤ) (out next : List ℕ) (p : Result Played Refusal) → k ≡ intervals m n → zs ≡ open_numbers m role n l 0
           → p ≡ played (room_refusal (length (take (2 * k) zs)) (length out)) t (take (2 * k) zs)
           → next ≡ played_bytes (room_refusal (length (take (2 * k) zs)) (length out)) (take (2 * k) zs) out
           → (p ≡ open_played m role n (length out)) × (next ≡ open_bytes m role n out)
@@ -187,20 +183,20 @@ module _ (s : Sender) (ds : List ℕ) where
       (zero-add (2 * (length (sent_bits s ds) / width s.mode)) ∙ ap (λ (k : ℕ). 2 * k) (sent-groups s ds))
 
   -- the sender given the numbers l; r is what it answered
-  module _ (l : List ℤ) (r : Sent) (size : length l ≡ 8192) (a : r ≡ send_answer s (sent_bits s ds) (length l) 0) where
-    send_said : (x : Sent) → r ≡ x → answered (send_refusal s (sent_bits s ds) 8192 0) (after_bits s (sent_bits s ds)) ≡ x
+  module _ (l : List ℤ) (r : Result Sender Refusal) (size : length l ≡ 8192) (a : r ≡ send_answer s (sent_bits s ds) (length l) 0) where
+    send_said : (x : Result Sender Refusal) → r ≡ x → answered (send_refusal s (sent_bits s ds) 8192 0) (after_bits s (sent_bits s ds)) ≡ x
     unfolding send_answer
     send_said x e = ap (λ (k : ℕ). answered (send_refusal s (sent_bits s ds) k 0) (after_bits s (sent_bits s ds))) (sym size) ∙ sym a ∙ e
 
-    pub send_refused : (j : ℕ) (out : List ℕ) → r ≡ sent.Refused j → (Refused j ≡ send_played s ds (length out)) × (out ≡ send_bytes s ds out)
+    pub send_refused : (j : Refusal) (out : List ℕ) → r ≡ Err j → (Err j ≡ send_played s ds (length out)) × (out ≡ send_bytes s ds out)
     unfolding send_played send_bytes
     send_refused j out e =
         call_refused (send_fault s ds (length out)) (send_refusal s (sent_bits s ds) 8192 0) (rest_fault s ds (length out)) (after_bits s (sent_bits s ds)) (bit_numbers s (sent_bits s ds)) out
-        (send_two (length out)) j (send_said (sent.Refused j) e)
+        (send_two (length out)) j (send_said (Err j) e)
 
-    module _ (t : Sender) (e : r ≡ sent.Ready t) where
+    module _ (t : Sender) (e : r ≡ Ok t) where
       send_free : (t ≡ after_bits s (sent_bits s ds)) × (send_refusal s (sent_bits s ds) 8192 0 ≡ 0)
-      send_free = ready_by (send_refusal s (sent_bits s ds) 8192 0) (after_bits s (sent_bits s ds)) t (send_said (sent.Ready t) e)
+      send_free = ready_by (send_refusal s (sent_bits s ds) 8192 0) (after_bits s (sent_bits s ds)) t (send_said (Ok t) e)
 
       send_goes_on : (lent : ℕ) → send_fault s ds lent ≡ rest_fault s ds lent
       send_goes_on lent = send_two lent ∙ ap (λ (i : ℕ). or_next i (rest_fault s ds lent)) send_free.1
@@ -209,13 +205,13 @@ module _ (s : Sender) (ds : List ℕ) where
       send_fits k h = omega (arith, (send_ok s (sent_bits s ds) 8192 0 send_free.1).1.room, sent-groups s ds)
 
       -- more than 8192 bits
-      pub send_long : (out : List ℕ) → 8192 < length ds → (Refused 7 ≡ send_played s ds (length out)) × (out ≡ send_bytes s ds out)
-      unfolding send_played send_bytes
+      pub send_long : (out : List ℕ) → 8192 < length ds → (Err Lent ≡ send_played s ds (length out)) × (out ≡ send_bytes s ds out)
+      unfolding send_played send_bytes named
       send_long out h =
           let f : send_fault s ds (length out) ≡ 7 = send_goes_on (length out) ∙ rw (lt-leb (length ds) 8192 h) in
           (rw f, rw f)
 
-      pub send_done : (k : ℕ) (zs : List ℤ) (out next : List ℕ) (p : Played) → k ≡ length ds / width s.mode → length ds ≤ 8192 → zs ≡ send_numbers s (sent_bits s ds) l 0
+      pub send_done : (k : ℕ) (zs : List ℤ) (out next : List ℕ) (p : Result Played Refusal) → k ≡ length ds / width s.mode → length ds ≤ 8192 → zs ≡ send_numbers s (sent_bits s ds) l 0
           → p ≡ played (room_refusal (length (take (2 * k) zs)) (length out)) t (take (2 * k) zs)
           → next ≡ played_bytes (room_refusal (length (take (2 * k) zs)) (length out)) (take (2 * k) zs) out
           → (p ≡ send_played s ds (length out)) × (next ≡ send_bytes s ds out)

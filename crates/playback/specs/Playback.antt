@@ -1,21 +1,21 @@
 -- Opening and sending into the bytes of a capture. A number of a point takes two of the lent bytes, so that n bytes are lent to the sender
 -- as n / 2 numbers: number 7 says that there are fewer than four bytes for each point.
-use Rattle.std.specs.Prelude.{ℕ, ◌*◌, ◌/◌, List, leb, ℤ, length, take, drop}
+use Rattle.std.specs.Prelude.{ℕ, ◌*◌, ◌/◌, List, Result, leb, ℤ, length, take, drop}
 use Rattle.std.proofs.lemmas.List.Edits.{sets}
 use Rattle.line.specs.Mode.{width}
-use Rattle.line.specs.Refusal.{need, or_next, accepted}
+use Rattle.line.specs.declared.refusal.Refusal.{Refusal}
+use Rattle.line.specs.Refusal.{answered, need, or_next, accepted}
 use Rattle.sender.specs.declared.Sender.{Sender}
 use Rattle.sender.specs.Sender.{send_refusal, after_bits, bit_numbers}
 use Rattle.sender.specs.Open.{open_refusal, opened, training_numbers}
 use Rattle.capture.specs.Capture.{number_bytes}
 use Rattle.playback.specs.declared.Played.{Played}
-use Rattle.playback.specs.declared.Played.TheVariants.{Refused, Ready}
 
 -- A CALL with the number n, that would hand on t and write the numbers zs
 
 -- the answer: the state and the count of bytes, or the number alone
-abbrev pub played : ℕ → Sender → List ℤ → Played
-played n t zs = accepted n (Ready t (2 * length zs)) (Refused n)
+abbrev pub played : ℕ → Sender → List ℤ → Result Played Refusal
+played n t zs = answered n (record { next = t; count = 2 * length zs })
 
 -- the lent bytes at exit: the numbers at their front, all others unchanged
 abbrev pub played_bytes : ℕ → List ℤ → List ℕ → List ℕ
@@ -30,7 +30,7 @@ room_refusal count lent = need (leb count (lent / 2)) 7 0
 unfoldable pub open_fault : ℕ → ℕ → ℕ → ℕ → ℕ
 open_fault m role n lent = open_refusal m role n (lent / 2) 0
 
-unfoldable pub open_played : ℕ → ℕ → ℕ → ℕ → Played
+unfoldable pub open_played : ℕ → ℕ → ℕ → ℕ → Result Played Refusal
 open_played m role n lent = played (open_fault m role n lent) (opened m role n) (training_numbers m role n)
 
 unfoldable pub open_bytes : ℕ → ℕ → ℕ → List ℕ → List ℕ
@@ -52,7 +52,7 @@ left_bits s ds = drop (whole_bits (width s.mode) ds) ds
 unfoldable pub send_fault : Sender → List ℕ → ℕ → ℕ
 send_fault s ds lent = or_next (send_refusal s (sent_bits s ds) (lent / 2) 0) (need (leb (length ds) 8192) 7 0)
 
-unfoldable pub send_played : Sender → List ℕ → ℕ → Played
+unfoldable pub send_played : Sender → List ℕ → ℕ → Result Played Refusal
 send_played s ds lent = played (send_fault s ds lent) (after_bits s (sent_bits s ds)) (bit_numbers s (sent_bits s ds))
 
 unfoldable pub send_bytes : Sender → List ℕ → List ℕ → List ℕ

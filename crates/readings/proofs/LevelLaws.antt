@@ -3,36 +3,38 @@ use Prim.Native.Nat.{ℕ, suc, ◌+◌, ◌*◌, ◌-◌, ◌/◌, ◌%◌, ◌<
 use mathlib.Core.Path.{◌≡◌, refl, sym, ap, ap₂, ◌∙◌, subst}
 use mathlib.Core.Bool.{Bool, true, false, ◌&&◌}
 use mathlib.Core.List.{List, [], ◌∷◌, ◌++◌, map, map-append}
-use native.Mathlib.Nat.{min-le_left, min-le_right, le-min}
+use native.Mathlib.Nat.{min-le_left}
 use native.Mathlib.Omega.{arith}
 use borrow.Author.Tests.{eq-eqb, le-leb}
 use lib.Dec.{T}
 use lib.IntN.{ℤ}
 use lib.Ieee.{Float, nan}
 use borrow.Rule.Slice.PartMut.{put_mid}
-use lib.ListN.{length, get_or, set, take, drop, length-set, length-drop, length-map, drop_of_length-le}
-use lib.Seq.{sets, sets-eq, drop-cons, drop-drop, take-append_seam, length-take-le, length-sets}
+use lib.ListN.{length, get_or, set, take, drop, length-set, length-append, length-drop, length-map, drop_of_length-le}
+use lib.Seq.{sets, sets-eq, drop-cons, drop-drop, take-append_seam, drop-append_seam, length-take-le, length-sets}
 use mir.Syntax.{w16}
 use mir.Val.{to_z, of_z}
 use mir.Facts.{to_z-of_z}
 use Rattle.line.specs.Table.{every}
 use Rattle.line.specs.declared.Point.{Point}
 use Rattle.line.specs.Point.{pairs, coordinate_in, coordinates_in}
-use Rattle.line.specs.Refusal.{need, accepted}
-use Rattle.line.proofs.RefusalLaws.{next-first}
+use Rattle.line.specs.Refusal.{number, need, accepted}
+use Rattle.line.proofs.RefusalLaws.{some_number, next-first}
 use Rattle.line.proofs.PointLaws.{pairs-length, pairs_split}
 use Rattle.line.proofs.Sets.{sets_then, sets_part, part_room}
-use Rattle.line.proofs.TableLaws.{and_intro, map-take, map-drop}
+use Rattle.line.proofs.TableLaws.{and_intro, every_take, every_drop, map-drop}
 use Rattle.levels.specs.Levels.{is_finite, rounded, in_reach}
 use Rattle.levels.proofs.RoundsProof.{reach_fits}
 use Rattle.receiver.specs.declared.Receiver.{Receiver}
 use Rattle.receiver.specs.Receiver.{Event, point, Answer, state_refusal, event_refusal, refusal}
 use Rattle.receiver.specs.Calls.{after, EachAccepted, Heard, heard, answers}
 use Rattle.receiver.proofs.CallLaws.{heard_append, after_append, each_split, heard_all, same_after}
-use Rattle.bulk.specs.declared.Block.{Block}
+use Rattle.std.specs.Prelude.{Result, Ok, Err}
+use Rattle.std.specs.Result.{result_unwrap_or}
+use Rattle.line.specs.declared.refusal.Refusal.{Refusal}
 use Rattle.bulk.specs.Block.{in_units, in_levels, line_byte, plain_byte, distance_number, answers_to, Parts, parts, wrote, Lent, sizes, block_refusal, coordinate_fault, places_ok, fault_of, state_of, Told, parts_after}
 use Rattle.bulk.specs.Hearing.{left, Hearing, Holds}
-use Rattle.bulk.proofs.BlockLaws.{has_place, lent_is, all_finite, at_once, fault_law, each_coordinate, hearing_holds}
+use Rattle.bulk.proofs.BlockLaws.{has_place, lent_is, all_finite, at_once, fault_law, each_coordinate, whole_points, hearing_holds}
 
 -- WHAT REFUSES ONE
 
@@ -61,14 +63,29 @@ module _ (vs : List Float) (r : Bool) (e : r ≡ every in_reach vs) where
       by true false i = absurd (subst T (sym i) tt)
       by false b i = absurd (subst T (sym i) tt)
 
-  pub one_refused : (f : Bool) (n : ℕ) → r ≡ false → f ≡ every is_finite vs → n ≡ need f 18 8 → n ≡ coordinate_fault (in_levels vs)
-  unfolding coordinate_fault
-  one_refused f n h p q = q ∙ ap (λ (t : Bool). need t 18 8) p ∙ by (every is_finite vs) (coordinates_in (map rounded vs)) (both ∙ h)
-    where
-      by : (a b : Bool) → a && b ≡ false → need a 18 8 ≡ need a 18 (need b 8 0)
-      by true true i = absurd (subst T i tt)
-      by true false i = refl
-      by false b i = refl
+  module _ (h : r ≡ false) (f : Bool) (p : f ≡ every is_finite vs) where
+    found : need f 18 8 ≡ coordinate_fault (in_levels vs)
+    unfolding coordinate_fault
+    found = ap (λ (t : Bool). need t 18 8) p ∙ by (every is_finite vs) (coordinates_in (map rounded vs)) (both ∙ h)
+      where
+        by : (a b : Bool) → a && b ≡ false → need a 18 8 ≡ need a 18 (need b 8 0)
+        by true true i = absurd (subst T i tt)
+        by true false i = refl
+        by false b i = refl
+
+    pub one_not_finite : (e : Refusal) → number e ≡ need f 18 0 → number e ≡ coordinate_fault (in_levels vs)
+    one_not_finite e q = by f q ∙ found
+      where
+        by : (t : Bool) → number e ≡ need t 18 0 → number e ≡ need t 18 8
+        by true i = absurd (some_number e i)
+        by false i = i
+
+    pub one_far : 0 ≡ need f 18 0 → 8 ≡ coordinate_fault (in_levels vs)
+    one_far q = by f q ∙ found
+      where
+        by : (t : Bool) → 0 ≡ need t 18 0 → 8 ≡ need t 18 8
+        by true i = refl
+        by false i = absurd (omega arith)
 
 -- INTO UNITS, ONE AFTER THE OTHER
 
@@ -105,30 +122,43 @@ front : (zs us : List ℤ) (n : ℕ) → length us ≡ n → n ≤ length zs →
 front zs us n e l =
     ap (take n) (sets-eq us zs 0 (omega arith)) ∙ ap (λ (i : ℕ). take i (us ++ drop (0 + length us) zs)) (sym e) ∙ take-append_seam us (drop (0 + length us) zs)
 
--- how many points a run has: as many as there are left, and as the lent numbers hold
-module _ (n k u m : ℕ) (e : m ≡ min (n - k) (u / 2)) where
-  pub run_within : k ≤ n → k + m ≤ n
-  run_within l = let h = min-le_left (n - k) (u / 2) in omega (arith, h)
+-- a chunk of the levels from number k on: whole points, as many as n lent numbers hold at most
+module _ (vs whole part rest : List Float) (k n size : ℕ) (at : whole ≡ drop (2 * k) vs) (q : size ≡ n / 2 * 2) (two : 2 ≤ n) (even : length vs % 2 ≡ 0) (e : whole ≡ part ++ rest)
+    (r : length part ≡ min size (length whole)) (some : 0 < length whole) where
+  left-long : length whole ≡ length vs - 2 * k
+  left-long = ap length at ∙ length-drop (2 * k) vs
 
-  pub run_held : 2 * m ≤ u
-  run_held = let h = min-le_right (n - k) (u / 2) in omega (arith, h)
+  pub chunk_even : length part ≡ 2 * (length part / 2)
+  chunk_even = let l = left-long in omega arith
 
-  pub run_some : k < n → 2 ≤ u → 1 ≤ m
-  run_some l h = rw e (le-min (omega arith) (omega arith))
+  pub chunk_some : 1 ≤ length part / 2
+  chunk_some = let l = left-long in omega arith
 
--- m points from number k on
-module _ (vs : List Float) (k m : ℕ) (l : k + m ≤ length vs / 2) where
-  abbrev run : List Float
-  run = take (2 * (k + m) - 2 * k) (drop (2 * k) vs)
+  pub chunk_held : length part ≤ n
+  chunk_held = let l = min-le_left size (length whole) in omega arith
 
-  pub run_length : length run ≡ 2 * m
-  run_length = length-take-le (2 * (k + m) - 2 * k) (drop (2 * k) vs) (simp length-drop (omega arith)) ∙ (let e : 2 * (k + m) - 2 * k ≡ 2 * m = omega arith in e)
+  pub chunk_reached : T (every in_reach vs) → T (every in_reach part)
+  chunk_reached t =
+      subst (λ (us : List Float). T (every in_reach us)) (ap (take (length part)) e ∙ take-append_seam part rest)
+      (every_take in_reach (length part) whole (subst (λ (us : List Float). T (every in_reach us)) (sym at) (every_drop in_reach (2 * k) vs t)))
 
-  pub run_units : (zs us : List ℤ) → 2 * m ≤ length zs → us ≡ sets zs 0 (map rounded run) → take (2 * m) us ≡ take (2 * m) (drop (2 * k) (map rounded vs))
-  run_units zs us h e =
-      ap (take (2 * m)) e ∙ front zs (map rounded run) (2 * m) (length-map run rounded ∙ run_length) h
-      ∙ map-take rounded (2 * (k + m) - 2 * k) (drop (2 * k) vs)
-      ∙ ap₂ (λ (i : ℕ) (ws : List ℤ). take i ws) (let e : 2 * (k + m) - 2 * k ≡ 2 * m = omega arith in e) (map-drop rounded (2 * k) vs)
+  pub chunk_rest : rest ≡ drop (2 * (k + length part / 2)) vs
+  chunk_rest =
+      let l = chunk_even in
+      sym (drop-append_seam part rest) ∙ ap (drop (length part)) (sym e ∙ at) ∙ drop-drop (length part) (2 * k) vs
+      ∙ ap (λ (i : ℕ). drop i vs) (let z : 2 * k + length part ≡ 2 * (k + length part / 2) = omega arith in z)
+
+-- m points from number k on, before the rest
+module _ (vs part rest : List Float) (k m : ℕ) (e : drop (2 * k) vs ≡ part ++ rest) (p : length part ≡ 2 * m) where
+  run_within : 1 ≤ m → k + m ≤ length vs / 2
+  run_within l = let i = sym (length-drop (2 * k) vs) ∙ ap length e ∙ length-append part rest in omega arith
+
+  run_units : (zs us : List ℤ) → length part ≤ length zs → us ≡ sets zs 0 (map rounded part) → take (length part) us ≡ take (2 * m) (drop (2 * k) (map rounded vs))
+  run_units zs us h q =
+      let l : length (map rounded part) ≡ length part = length-map part rounded in
+      ap (take (length part)) q ∙ front zs (map rounded part) (length part) l h
+      ∙ sym (take-append_seam (map rounded part) (map rounded rest))
+      ∙ ap₂ take (l ∙ p) (sym (map-append rounded part rest) ∙ ap (map rounded) (sym e) ∙ map-drop rounded (2 * k) vs)
 
 -- the parts from place k on, as they are lent, and the whole after it
 abbrev pub lent_parts : Parts → ℕ → Parts
@@ -215,26 +245,28 @@ module _ (s : Receiver) (b : Parts) (zs : List ℤ) (j : ℕ) (t : Receiver) (c 
         parts-left = (λ i. wrote (parts (line i) (plain i) (distance i)) (k + m) (answers_to u (left zs (k + m)))) ∙ written_on u q ∙ h.parts-left;
       }
 
+-- the state after a call, as the code takes it
+left_of : (t : Receiver) (a : Result Receiver Refusal) → result_unwrap_or a t ≡ state_of t a
+left_of t (Ok u) = refl
+left_of t (Err e) = refl
+
 -- where a point is accepted, the state passes and has a place
 first_passes : (t : Receiver) (ps : List Point) → EachAccepted t (map point ps) → 1 ≤ length ps → (state_refusal t ≡ 0) × (t.place.0 ≤ 4294967295)
 unfolding refusal
 first_passes t [] f l = absurd (omega arith)
 first_passes t (p ∷ ps) f l = let h = has_place t p f.0 in (next-first (state_refusal t) (event_refusal t (point p)) f.0, omega arith)
 
--- a run in levels, put into lent numbers zs, n of them, which are then us
-module _ (s : Receiver) (b : Parts) (vs : List Float) (t : Receiver) (c : Parts) (k m n : ℕ) (h : Hearing s b (map rounded vs) 0 t c k) (g : Holds (map rounded vs) b) (zs us : List ℤ) (l : k < length vs / 2) (e : m ≡ min (length vs / 2 - k) (n / 2)) (o : length zs ≡ n)
-    (w : us ≡ sets zs 0 (map rounded (take (2 * (k + m) - 2 * k) (drop (2 * k) vs)))) where
-  inside : k + m ≤ length vs / 2
-  inside = run_within (length vs / 2) k n m e (omega arith)
-
+-- a run in levels, put into lent numbers zs, which are then us
+module _ (s : Receiver) (b : Parts) (vs : List Float) (t : Receiver) (c : Parts) (k m : ℕ) (h : Hearing s b (map rounded vs) 0 t c k) (g : Holds (map rounded vs) b) (zs us : List ℤ) (part rest : List Float) (e : drop (2 * k) vs ≡ part ++ rest)
+    (p : length part ≡ 2 * m) (one : 1 ≤ m) (o : length part ≤ length zs) (w : us ≡ sets zs 0 (map rounded part)) where
   within : k + m ≤ length (map rounded vs) / 2
-  within = simp length-map inside
+  within = simp length-map (run_within vs part rest k m e p one)
 
-  as_units : take (2 * m) us ≡ take (2 * m) (drop (2 * k) (map rounded vs))
-  as_units = let f = run_held (length vs / 2) k n m e in run_units vs k m inside zs us (omega arith) w
+  as_units : take (length part) us ≡ take (2 * m) (drop (2 * k) (map rounded vs))
+  as_units = run_units vs part rest k m e p zs us o w
 
   abbrev xs : List ℤ
-  xs = take (2 * m) us
+  xs = take (length part) us
 
   free : EachAccepted t (map point (pairs xs))
   free = run_free s b (map rounded vs) 0 t c k m h within xs as_units
@@ -243,43 +275,38 @@ module _ (s : Receiver) (b : Parts) (vs : List Float) (t : Receiver) (c : Parts)
   xs_long = xs_length s b (map rounded vs) 0 t c k m h within xs as_units
 
   -- the call for the run is accepted: its points are, and its lent parts suffice
-  accepted_run : 2 ≤ n → block_refusal t (in_units xs) (sizes (lent_parts c k)) ≡ 0
+  accepted_run : block_refusal t (in_units xs) (sizes (lent_parts c k)) ≡ 0
   unfolding places_ok
-  accepted_run two =
+  accepted_run =
       let holds = run_holds s b (map rounded vs) 0 t c k m h within xs as_units (hearing_holds s b (map rounded vs) 0 t c k h g) in
-      let first = first_passes t (pairs xs) free (let e = points-length s b (map rounded vs) 0 t c k m h within xs as_units in let o = run_some (length vs / 2) k n m e' l two in omega arith) in
+      let first = first_passes t (pairs xs) free (let i = points-length s b (map rounded vs) 0 t c k m h within xs as_units in omega arith) in
       at_once t (in_units xs) (sizes (lent_parts c k)) first.0 first.1
       (subst T (lent_is t (in_units xs) (sizes (lent_parts c k)))
       (rw (
-        eq-eqb (length xs % 2) 0 (let o = xs_long in omega arith),
+        eq-eqb (length xs % 2) 0 (let i = xs_long in omega arith),
         le-leb (length xs / 2) (length (lent_parts c k).line) holds.line,
         le-leb (length xs / 2) (length (lent_parts c k).plain) holds.plain,
         le-leb (length xs / 2) (length (lent_parts c k).distance) holds.distance,
       ) tt)) tt free
-    where
-      e' : m ≡ min (length vs / 2 - k) (n / 2)
-      e' = e
 
-  pub levels-heard : (a : Block) (u : Receiver) (d : Parts) → 2 ≤ n → Told t (in_units xs) (sizes (lent_parts c k)) a → d ≡ parts_after t (in_units xs) (lent_parts c k) → u ≡ state_of t a
+  pub levels-heard : (a : Result Receiver Refusal) (u : Receiver) (d : Parts) → Told t (in_units xs) (sizes (lent_parts c k)) a → d ≡ parts_after t (in_units xs) (lent_parts c k) → u ≡ result_unwrap_or a t
       → Hearing s b (map rounded vs) 0 u (put_parts c k d) (k + m)
   unfolding parts_after
-  levels-heard a u d two told p q =
-      let z = accepted_run two in
+  levels-heard a u d told q r =
+      let z = accepted_run in
       run_heard s b (map rounded vs) 0 t c k m h within xs as_units u d (hearing_holds s b (map rounded vs) 0 t c k h g)
-      (q ∙ told.state_is ∙ ap (λ (i : ℕ). accepted i (after t (map point (pairs xs))) t) z)
-      (p ∙ ap (λ (i : ℕ). accepted i (wrote (lent_parts c k) 0 (answers_to t (pairs xs))) (lent_parts c k)) z)
-
-  pub levels_long : length us ≡ n
-  levels_long = ap length w ∙ length-sets zs 0 (map rounded (take (2 * (k + m) - 2 * k) (drop (2 * k) vs))) ∙ o
-
-  pub levels-count : 2 * m ≡ length (take (2 * m) us)
-  levels-count = let f = run_held (length vs / 2) k n m e in let i = levels_long in sym (length-take-le (2 * m) us (omega arith))
+      (r ∙ left_of t a ∙ told.state_is ∙ ap (λ (i : ℕ). accepted i (after t (map point (pairs xs))) t) z)
+      (q ∙ ap (λ (i : ℕ). accepted i (wrote (lent_parts c k) 0 (answers_to t (pairs xs))) (lent_parts c k)) z)
 
 -- THE CALL
 
 module _ (s : Receiver) (vs : List Float) (n : Lent) where
   pub fault_levels : (c f : ℕ) → c ≡ coordinate_fault (in_levels vs) → f ≡ fault_of s (length vs) c n → f ≡ block_refusal s (in_levels vs) n
   fault_levels c f p e = e ∙ ap₂ (λ (i j : ℕ). fault_of s i j n) (sym (length-map vs rounded)) p ∙ fault_law s (in_levels vs) n
+
+  -- an accepted block has whole points
+  pub whole_levels : block_refusal s (in_levels vs) n ≡ 0 → length vs % 2 ≡ 0
+  whole_levels z = ap (λ (i : ℕ). i % 2) (sym (length-map vs rounded)) ∙ whole_points s (in_levels vs) n z
 
   -- all of an accepted block is in reach
   pub all_reached : block_refusal s (in_levels vs) n ≡ 0 → T (every in_reach vs)

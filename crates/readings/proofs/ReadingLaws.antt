@@ -1,8 +1,7 @@
 -- A reading is heard as the event that it rounds to. Assumes nothing.
-use Prim.Native.Nat.{ℕ, zero, suc, ◌+◌, ◌<◌}
+use Prim.Native.Nat.{ℕ, ◌+◌, ◌<◌}
 use mathlib.Core.Path.{◌≡◌, refl, sym, ap, ap₂, ◌∙◌, subst}
 use mathlib.Core.Bool.{Bool, true, false, ◌&&◌, cond}
-use native.Mathlib.Omega.{arith}
 use lib.Dec.{T, lit≤}
 use lib.IntN.{ℤ}
 use lib.Ieee.{Float}
@@ -11,7 +10,11 @@ use mir.Val.{to_z, of_z}
 use mir.Facts.{to_z-of_z}
 use Rattle.line.specs.declared.Point.{Point}
 use Rattle.line.specs.Point.{at, in_range}
-use Rattle.line.specs.Refusal.{need, or_next, accepted}
+use Rattle.std.specs.Prelude.{Result, Ok, Err}
+use Rattle.line.specs.declared.refusal.Refusal.{Refusal}
+use Rattle.line.specs.declared.refusal.Refusal.TheVariants.{Coordinate, NotFinite}
+use Rattle.line.specs.Refusal.{number, answered, need, or_next, accepted}
+use Rattle.line.proofs.RefusalLaws.{some_number, answer_refused, left_kept, or_some}
 use Rattle.line.proofs.Tests.{cond-true, cond-false, by_test, and_split, and_join}
 use Rattle.levels.specs.declared.Levels.{Levels}
 use Rattle.levels.specs.Levels.{is_finite, rounded, point_of, in_reach}
@@ -19,14 +22,13 @@ use Rattle.levels.proofs.FieldLaws.{reach_finite}
 use Rattle.levels.proofs.RoundsProof.{judged_rounded, reach_fits}
 use Rattle.receiver.specs.declared.Receiver.{Receiver}
 use Rattle.receiver.specs.declared.Outcome.{Outcome}
-use Rattle.receiver.specs.declared.Outcome.TheVariants.{Refused}
 use Rattle.receiver.specs.Receiver.{Event, point, gap, refused, state_refusal, event_refusal, refusal, event_answer, answer, intervals, place_after, event_next, next}
 use Rattle.receiver.specs.Outcome as Receiving
 use Rattle.receiver.specs.Outcome.{event_outcome, outcome}
 use Rattle.readings.specs.declared.Reading.{Reading}
 use Rattle.readings.specs.declared.Reading.TheVariants.{Point as InLevels, Squelch, Hole}
 use Rattle.readings.specs.declared.Units.{Units}
-use Rattle.readings.specs.declared.Units.TheVariants.{Refused as NotTaken, Point as InUnits, Gap}
+use Rattle.readings.specs.declared.Units.TheVariants.{Point as InUnits, Gap}
 use Rattle.readings.specs.Reading.{event_of, is_number, reading_refusal, reading_answer, reading_place, reading_next, reading_outcome, Told, in_units}
 
 -- WHERE ITS NUMBERS ARE FINITE it is the event
@@ -38,7 +40,7 @@ module _ (s : Receiver) (r : Reading) (t : is_number r ≡ true) where
 
   pub finite_outcome : reading_outcome s r ≡ outcome s (event_of r)
   unfolding reading_outcome outcome
-  finite_outcome = ap (λ (n : ℕ). accepted n (event_outcome s (event_of r)) (Refused n)) finite_refusal
+  finite_outcome = ap (λ (n : ℕ). answered n (event_outcome s (event_of r))) finite_refusal
 
   pub finite_next : reading_next s r ≡ next s (event_of r)
   unfolding reading_next next
@@ -52,38 +54,38 @@ module _ (s : Receiver) (r : Reading) (t : is_number r ≡ true) where
   unfolding reading_place place_after
   finite_place = ap (λ (n : ℕ). accepted n (s.place.0 + intervals (event_of r)) s.place.0) finite_refusal
 
--- REFUSED after the state's numbers, by one of the two
+-- REFUSED
 
-module _ (s : Receiver) (r : Reading) (k : ℕ) (e : reading_refusal s r ≡ or_next (state_refusal s) k) (l : 7 < k) where
-  past : {A : Type 0} (a b : A) → accepted (reading_refusal s r) a b ≡ b
-  past a b = ap (λ (n : ℕ). accepted n a b) e ∙ by (state_refusal s) k l a b
-    where
-      by : {A : Type 0} (n k : ℕ) → 7 < k → (a b : A) → accepted (or_next n k) a b ≡ b
-      by zero zero h a b = absurd (omega arith)
-      by zero (suc k) h a b = refl
-      by (suc n) k h a b = refl
-
-  pub refused_law : (n i : ℕ) → n ≡ state_refusal s → i ≡ or_next n k → (Refused i ≡ reading_outcome s r) × Told s r (Refused i)
+module _ (s : Receiver) (r : Reading) where
+  pub refused_law : (f : Refusal) → number f ≡ reading_refusal s r → (Err f ≡ reading_outcome s r) × Told s r (Err f)
   unfolding reading_outcome reading_answer reading_place reading_next
-  refused_law n i p q =
-      let f : i ≡ reading_refusal s r = q ∙ ap (λ (j : ℕ). or_next j k) p ∙ sym e in (
-        ap Refused f ∙ sym (past (event_outcome s (event_of r)) (Refused (reading_refusal s r))),
+  refused_law f e =
+      let some : reading_refusal s r ≡ 0 → ⊥ = λ z. some_number f (e ∙ z) in (
+        answer_refused f _ (event_outcome s (event_of r)) e,
         record {
-          answer_is = ap refused f ∙ sym (past (event_answer s (event_of r)) (refused (reading_refusal s r)));
-          place_is = sym (past (s.place.0 + intervals (event_of r)) s.place.0);
-          state_is = sym (past (event_next s (event_of r)) s);
+          answer_is = ap refused e ∙ left_kept _ (event_answer s (event_of r)) (refused (reading_refusal s r)) some;
+          place_is = left_kept _ (s.place.0 + intervals (event_of r)) s.place.0 some;
+          state_is = left_kept _ (event_next s (event_of r)) s some;
         },
       )
 
+  -- by a number of the state
+  state_first : (f : Refusal) → number f ≡ state_refusal s → number f ≡ reading_refusal s r
+  unfolding reading_refusal
+  state_first f e = e ∙ or_some (state_refusal s) _ (λ z. some_number f (e ∙ z))
+
 -- WHAT THE CODE HANDS ON
 
--- the number that refuses a reading, or the event that it is taken as, with nothing but finite numbers
-abbrev pub Means : Receiver → Reading → Units → Type 0
-Means s r (NotTaken k) = (reading_refusal s r ≡ or_next (state_refusal s) k) × (7 < k)
-Means s r (InUnits p) = (is_number r ≡ true) × (event_of r ≡ point p)
-Means s r (Gap n) = (is_number r ≡ true) × (event_of r ≡ gap n)
+-- what refuses a reading after the state, or the event that it is taken as, with nothing but finite numbers
+abbrev pub Means : Receiver → Reading → Result Units Refusal → Type 0
+Means s r (Err e) = (reading_refusal s r ≡ or_next (state_refusal s) (number e)) × (7 < number e)
+Means s r (Ok (InUnits p)) = (is_number r ≡ true) × (event_of r ≡ point p)
+Means s r (Ok (Gap n)) = (is_number r ≡ true) × (event_of r ≡ gap n)
 
-late_number : (a : Bool) → 7 < need a 18 8
+abbrev late : Bool → Refusal
+late a = cond a Coordinate NotFinite
+
+late_number : (a : Bool) → 7 < number (late a)
 late_number true = lit≤ tt
 late_number false = lit≤ tt
 
@@ -106,7 +108,7 @@ module _ (s : Receiver) (p : Levels) where
       let z = and_split (is_finite p.re) (is_finite p.im) e in
       sym (ap₂ ◌&&◌ (judged_rounded p.re z.0) (judged_rounded p.im z.1))
 
-  far_number : reach ≡ false → reading_refusal s (InLevels p) ≡ or_next (state_refusal s) (need finite 18 8)
+  far_number : reach ≡ false → reading_refusal s (InLevels p) ≡ or_next (state_refusal s) (number (late finite))
   unfolding reading_refusal event_refusal
   far_number f =
       by_test finite (λ t. rw (t, range_is t, f)) (λ t. rw t)
@@ -115,15 +117,15 @@ module _ (s : Receiver) (p : Levels) where
   unfolding in_units
   levels_means =
       by_test reach
-      (λ t. subst (Means s (InLevels p)) (sym (cond-true reach (InUnits (point_of p)) (NotTaken (need finite 18 8)) t)) (reach_number t, refl))
-      (λ f. subst (Means s (InLevels p)) (sym (cond-false reach (InUnits (point_of p)) (NotTaken (need finite 18 8)) f)) (far_number f, late_number finite))
+      (λ t. subst (Means s (InLevels p)) (sym (cond-true reach (Ok (InUnits (point_of p))) (Err (late finite)) t)) (reach_number t, refl))
+      (λ f. subst (Means s (InLevels p)) (sym (cond-false reach (Ok (InUnits (point_of p))) (Err (late finite)) f)) (far_number f, late_number finite))
 
 squelch_means : (s : Receiver) (v : Float) → Means s (Squelch v) (in_units (Squelch v))
 unfolding in_units reading_refusal
 squelch_means s v =
     by_test (is_finite v)
-    (λ t. subst (Means s (Squelch v)) (sym (cond-true (is_finite v) (Gap 1) (NotTaken 18) t)) (t, refl))
-    (λ f. subst (Means s (Squelch v)) (sym (cond-false (is_finite v) (Gap 1) (NotTaken 18) f)) (ap (λ (b : Bool). or_next (state_refusal s) (need b 18 (event_refusal s (gap 1)))) f, lit≤ tt))
+    (λ t. subst (Means s (Squelch v)) (sym (cond-true (is_finite v) (Ok (Gap 1)) (Err NotFinite) t)) (t, refl))
+    (λ f. subst (Means s (Squelch v)) (sym (cond-false (is_finite v) (Ok (Gap 1)) (Err NotFinite) f)) (ap (λ (b : Bool). or_next (state_refusal s) (need b 18 (event_refusal s (gap 1)))) f, lit≤ tt))
 
 pub means : (s : Receiver) (r : Reading) → Means s r (in_units r)
 means s (InLevels p) = levels_means s p
@@ -132,17 +134,17 @@ means s (Hole n) = unfold in_units in (refl, refl)
 
 -- AS THE CODE HAS IT
 
-module _ (s : Receiver) (r : Reading) (u : Units) (e : u ≡ in_units r) where
-  pub refused_units : (k : ℕ) → u ≡ NotTaken k → (reading_refusal s r ≡ or_next (state_refusal s) k) × (7 < k)
+module _ (s : Receiver) (r : Reading) (u : Result Units Refusal) (e : u ≡ in_units r) where
+  pub refused_units : (k : Refusal) → u ≡ Err k → (reading_refusal s r ≡ or_next (state_refusal s) (number k)) × (7 < number k)
   refused_units k q = subst (Means s r) (sym e ∙ q) (means s r)
 
-  pub point_units : (p : Point) → u ≡ InUnits p → (is_number r ≡ true) × (event_of r ≡ point p)
+  pub point_units : (p : Point) → u ≡ Ok (InUnits p) → (is_number r ≡ true) × (event_of r ≡ point p)
   point_units p q = subst (Means s r) (sym e ∙ q) (means s r)
 
-  pub gap_units : (n : ℕ) → u ≡ Gap n → (is_number r ≡ true) × (event_of r ≡ gap n)
+  pub gap_units : (n : ℕ) → u ≡ Ok (Gap n) → (is_number r ≡ true) × (event_of r ≡ gap n)
   gap_units n q = subst (Means s r) (sym e ∙ q) (means s r)
 
-  event_received : (d : Event) → (is_number r ≡ true) × (event_of r ≡ d) → (o : Outcome) → (o ≡ outcome s d) × Receiving.Told s d o → (o ≡ reading_outcome s r) × Told s r o
+  event_received : (d : Event) → (is_number r ≡ true) × (event_of r ≡ d) → (o : Result Outcome Refusal) → (o ≡ outcome s d) × Receiving.Told s d o → (o ≡ reading_outcome s r) × Told s r o
   event_received d z o w =
       let t = z.0 in (
         w.0 ∙ ap (outcome s) (sym z.1) ∙ sym (finite_outcome s r t),
@@ -153,13 +155,17 @@ module _ (s : Receiver) (r : Reading) (u : Units) (e : u ≡ in_units r) where
         },
       )
 
-  pub received_refused : (k n i : ℕ) → u ≡ NotTaken k → n ≡ state_refusal s → i ≡ or_next n k → (Refused i ≡ reading_outcome s r) × Told s r (Refused i)
-  received_refused k n i q a b = let z = refused_units k q in refused_law s r k z.0 z.1 n i a b
+  -- refused by the state, and by the reading
+  pub received_state : (f : Refusal) → number f ≡ state_refusal s → (Err f ≡ reading_outcome s r) × Told s r (Err f)
+  received_state f a = refused_law s r f (state_first s r f a)
 
-  pub received_gap : (n : ℕ) (o : Outcome) → u ≡ Gap n → (o ≡ outcome s (gap n)) × Receiving.Told s (gap n) o → (o ≡ reading_outcome s r) × Told s r o
+  pub received_refused : (f : Refusal) → u ≡ Err f → 0 ≡ state_refusal s → (Err f ≡ reading_outcome s r) × Told s r (Err f)
+  received_refused f q a = refused_law s r f (ap (λ (n : ℕ). or_next n (number f)) a ∙ sym (refused_units f q).0)
+
+  pub received_gap : (n : ℕ) (o : Result Outcome Refusal) → u ≡ Ok (Gap n) → (o ≡ outcome s (gap n)) × Receiving.Told s (gap n) o → (o ≡ reading_outcome s r) × Told s r o
   received_gap n o q z = event_received (gap n) (gap_units n q) o z
 
-  pub received_point : (p : Point) (o : Outcome) → u ≡ InUnits p → (o ≡ outcome s (point p)) × Receiving.Told s (point p) o → (o ≡ reading_outcome s r) × Told s r o
+  pub received_point : (p : Point) (o : Result Outcome Refusal) → u ≡ Ok (InUnits p) → (o ≡ outcome s (point p)) × Receiving.Told s (point p) o → (o ≡ reading_outcome s r) × Told s r o
   received_point p o q z = event_received (point p) (point_units p q) o z
 
 -- INTO UNITS
@@ -168,34 +174,40 @@ pub both_reached : (a b : Bool) (x y : Float) → a ≡ in_reach x → b ≡ in_
 both_reached a b x y e f t = let z = and_split a b t in (subst T (sym (sym e ∙ z.0)) tt, subst T (sym (sym f ∙ z.1)) tt)
 
 module _ (p : Levels) (a b : Bool) (e : a ≡ in_reach p.re) (f : b ≡ in_reach p.im) where
-  pub point_reached : (x y : ℤ) → (a && b) ≡ true → x ≡ rounded p.re → y ≡ rounded p.im → InUnits (at (to_z w16 (of_z w16 x)) (to_z w16 (of_z w16 y))) ≡ in_units (InLevels p)
+  pub point_reached : (x y : ℤ) → (a && b) ≡ true → x ≡ rounded p.re → y ≡ rounded p.im → Ok (InUnits (at (to_z w16 (of_z w16 x)) (to_z w16 (of_z w16 y)))) ≡ in_units (InLevels p)
   unfolding in_units
   point_reached x y t q r =
       let c : in_reach p.re && in_reach p.im ≡ true = sym (ap₂ ◌&&◌ e f) ∙ t in
       let z = and_split (in_reach p.re) (in_reach p.im) c in
-      ap₂ (λ (i j : ℤ). InUnits (at (to_z w16 (of_z w16 i)) (to_z w16 (of_z w16 j)))) q r
-      ∙ ap₂ (λ (i j : ℤ). InUnits (at i j))
+      ap₂ (λ (i j : ℤ). Ok (InUnits (at (to_z w16 (of_z w16 i)) (to_z w16 (of_z w16 j))))) q r
+      ∙ ap₂ (λ (i j : ℤ). Ok (InUnits (at i j)))
       (to_z-of_z {w = w16} (reach_fits p.re (subst T (sym z.0) tt)))
       (to_z-of_z {w = w16} (reach_fits p.im (subst T (sym z.1) tt)))
       ∙ sym (cond-true _ _ _ c)
 
-  pub point_refused : (c d : Bool) (n : ℕ) → (a && b) ≡ false → c ≡ is_finite p.re → d ≡ is_finite p.im → n ≡ need (c && d) 18 8 → NotTaken n ≡ in_units (InLevels p)
-  unfolding in_units
-  point_refused c d n t q r k =
-      ap NotTaken (k ∙ ap (λ (i : Bool). need i 18 8) (ap₂ ◌&&◌ q r)) ∙ sym (cond-false _ _ _ (sym (ap₂ ◌&&◌ e f) ∙ t))
+  module _ (t : (a && b) ≡ false) (c d : Bool) (q : c ≡ is_finite p.re) (r : d ≡ is_finite p.im) where
+    refused_as : (g : Bool) → (c && d) ≡ g → Err (late g) ≡ in_units (InLevels p)
+    unfolding in_units
+    refused_as g k = ap (λ (i : Bool). Err (late i)) (sym k ∙ ap₂ ◌&&◌ q r) ∙ sym (cond-false _ _ _ (sym (ap₂ ◌&&◌ e f) ∙ t))
+
+    pub point_far : (c && d) ≡ true → Err Coordinate ≡ in_units (InLevels p)
+    point_far k = refused_as true k
+
+    pub point_not_finite : (c && d) ≡ false → Err NotFinite ≡ in_units (InLevels p)
+    point_not_finite k = refused_as false k
 
 module _ (r : Reading) where
-  pub levels_in_units : (p : Levels) (u : Units) → r ≡ InLevels p → u ≡ in_units (InLevels p) → u ≡ in_units r
+  pub levels_in_units : (p : Levels) (u : Result Units Refusal) → r ≡ InLevels p → u ≡ in_units (InLevels p) → u ≡ in_units r
   levels_in_units p u e q = q ∙ ap in_units (sym e)
 
-  pub squelch_in_units : (v : Float) (b : Bool) → r ≡ Squelch v → b ≡ is_finite v → b ≡ true → Gap 1 ≡ in_units r
+  pub squelch_in_units : (v : Float) (b : Bool) → r ≡ Squelch v → b ≡ is_finite v → b ≡ true → Ok (Gap 1) ≡ in_units r
   unfolding in_units
-  squelch_in_units v b e q t = ap (λ (c : Bool). cond c (Gap 1) (NotTaken 18)) (sym t ∙ q) ∙ ap in_units (sym e)
+  squelch_in_units v b e q t = ap (λ (c : Bool). cond c (Ok (Gap 1)) (Err NotFinite)) (sym t ∙ q) ∙ ap in_units (sym e)
 
-  pub squelch_not_finite : (v : Float) (b : Bool) → r ≡ Squelch v → b ≡ is_finite v → b ≡ false → NotTaken 18 ≡ in_units r
+  pub squelch_not_finite : (v : Float) (b : Bool) → r ≡ Squelch v → b ≡ is_finite v → b ≡ false → Err NotFinite ≡ in_units r
   unfolding in_units
-  squelch_not_finite v b e q t = ap (λ (c : Bool). cond c (Gap 1) (NotTaken 18)) (sym t ∙ q) ∙ ap in_units (sym e)
+  squelch_not_finite v b e q t = ap (λ (c : Bool). cond c (Ok (Gap 1)) (Err NotFinite)) (sym t ∙ q) ∙ ap in_units (sym e)
 
-  pub hole_in_units : (n : ℕ) → r ≡ Hole n → Gap n ≡ in_units r
+  pub hole_in_units : (n : ℕ) → r ≡ Hole n → Ok (Gap n) ≡ in_units r
   unfolding in_units
   hole_in_units n e = ap in_units (sym e)

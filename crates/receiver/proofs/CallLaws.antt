@@ -19,8 +19,8 @@ use Rattle.scrambler.specs.declared.Register.{Register}
 use Rattle.scrambler.specs.Register.{fresh, register_ok}
 use Rattle.scrambler.proofs.BitLaws.{bits_are}
 use Rattle.scrambler.proofs.RegisterLaws.{Ok, ok, passes, ok_pushes}
-use Rattle.receiver.specs.declared.Reference.{Reference}
-use Rattle.receiver.specs.declared.Reference.TheVariants.{Nothing as none, State as some}
+use Rattle.receiver.specs.Reference.{Reference}
+use Rattle.std.specs.Prelude.{None as none, Some as some}
 use Rattle.receiver.specs.declared.Receiver.{Receiver}
 use Rattle.line.specs.Refusal.{mode_refusal}
 use Rattle.receiver.specs.Receiver.{fresh_receiver, Event, point, gap, is_fresh, fields_ok, state_refusal, refusal, refused, lost, line_bits, state_answer, point_answer, event_answer, answer, intervals, place_after, forgotten, state_line, state_next, point_next, event_next, next}

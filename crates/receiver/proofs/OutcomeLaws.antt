@@ -7,14 +7,17 @@ use mathlib.Core.List.{List, [], ◌∷◌}
 use native.Mathlib.Omega.{arith}
 use borrow.Author.Tests.{le-leb, lt-leb}
 use lib.IntN.{ℤ}
-use lib.Dec.{eqb}
+use lib.Dec.{eqb, leb}
 use Rattle.line.specs.declared.Point.{Point}
-use Rattle.line.specs.Mode.{column, is_state, width, guarded, capacity, face}
+use Rattle.line.specs.Mode.{column, is_mode, is_role, is_state, width, guarded, capacity, face}
 use Rattle.line.specs.Point.{at, in_range}
 use Rattle.deciding.specs.Decide.{Region, State, Origin, decide}
 use Rattle.coding.specs.Code.{group}
-use Rattle.line.specs.Refusal.{need, or_next, accepted}
-use Rattle.line.proofs.RefusalLaws.{or_some}
+use Rattle.std.specs.Prelude.{Option, Some, None, Result, Ok, Err}
+use Rattle.line.specs.declared.refusal.Refusal.{Refusal}
+use Rattle.line.specs.declared.refusal.Refusal.TheVariants.{Coordinate, NoIntervals, Intervals}
+use Rattle.line.specs.Refusal.{number, named, answered, need, or_next, accepted}
+use Rattle.line.proofs.RefusalLaws.{or_some, Listed, listed_need, listed_next, answer_refused, some_number}
 use Rattle.scrambler.specs.declared.Register.{Register}
 use Rattle.scrambler.specs.declared.Descrambled.{Descrambled}
 use Rattle.scrambler.specs.Register.{register, fresh, register_ok}
@@ -22,50 +25,60 @@ use Rattle.scrambler.specs.Scramble.{Datum}
 use Rattle.scrambler.specs.Group.{descrambled}
 use Rattle.scrambler.proofs.GroupLaws.{group_read, next_law, fill_law}
 use Rattle.deciding.specs.declared.SquaredUnits.{SquaredUnits}
-use Rattle.deciding.specs.declared.Decision.{Decision}
-use Rattle.deciding.specs.declared.Decision.TheVariants.{State as DecidedAs, Origin as AtOrigin}
+use Rattle.deciding.specs.declared.Decided.{Decided}
 use Rattle.deciding.specs.Distance.{measured, decision}
-use Rattle.receiver.specs.declared.Reference.{Reference}
-use Rattle.receiver.specs.declared.Reference.TheVariants.{Nothing as none, State as some}
+use Rattle.receiver.specs.Reference.{Reference}
+use Rattle.std.specs.Prelude.{None as none, Some as some}
 use Rattle.receiver.specs.declared.Receiver.{Receiver}
 use Rattle.receiver.specs.declared.Outcome.{Outcome}
-use Rattle.receiver.specs.declared.Outcome.TheVariants.{Refused, Referenced, Bits, Gap}
-use Rattle.receiver.specs.declared.Started.{Started}
-use Rattle.receiver.specs.declared.Started.TheVariants.{Refused as NotStarted, Ready}
+use Rattle.receiver.specs.declared.Outcome.TheVariants.{Referenced, Bits, Gap}
 use Rattle.line.specs.Refusal.{mode_refusal}
 use Rattle.receiver.specs.Receiver.{receiver, fresh_receiver, Event, point, gap, is_fresh, fields_ok, state_refusal, has_room, event_refusal, refusal, refused, decoded, line_bits, state_answer, point_answer, event_answer, answer, intervals, place_after, forgotten, state_line, state_next, point_next, event_next, next}
 use Rattle.receiver.specs.Outcome.{answer_of, state_of, Told, group_of, state_outcome, gap_outcome, point_outcome, event_outcome, outcome, if_room, Made, started}
 
+-- THE NUMBERS ARE OF THE LIST
+
+none_listed : Listed 0
+none_listed h = absurd (h refl)
+
+pub listed_mode : (m role : ℕ) → Listed (mode_refusal m role)
+unfolding mode_refusal named
+listed_mode m role = listed_need (is_mode m) 1 _ (λ h. refl) (listed_need (is_role m role) 2 0 (λ h. refl) none_listed)
+
+listed_state : (m role : ℕ) (b : Bool) → Listed (or_next (mode_refusal m role) (need b 4 0))
+unfolding named
+listed_state m role b = listed_next _ _ (listed_mode m role) (listed_need b 4 0 (λ h. refl) none_listed)
+
 -- WHAT AN OUTCOME SAYS
 
 module _ (s : Receiver) where
-  state_answered : (o : Reference) (y : ℕ) (d : SquaredUnits) → answer_of (width s.mode) (state_outcome s o y d) ≡ state_answer s o y d.0
+  state_answered : (o : Reference) (y : ℕ) (d : SquaredUnits) → answer_of (width s.mode) (Ok (state_outcome s o y d)) ≡ state_answer s o y d.0
   unfolding state_outcome state_answer group_of descrambled
   state_answered none y d = refl
   state_answered (some x) y d =
       ap (λ (ds : List Datum). decoded (line_bits s.mode x y) ds d.0) (group_read s.mode s.role s.line (group s.mode (face s.mode x) y))
 
-  point_answered : (p : Point) (d : Region) → answer_of (width s.mode) (point_outcome s (measured s.mode p d)) ≡ point_answer s p d
+  point_answered : (p : Point) (d : Region) → answer_of (width s.mode) (Ok (point_outcome s (measured s.mode p d))) ≡ point_answer s p d
   unfolding point_outcome point_answer
   point_answered p (State y) = state_answered s.reference y _
   point_answered p Origin = refl
 
-  event_answered : (e : Event) → answer_of (width s.mode) (event_outcome s e) ≡ event_answer s e
+  event_answered : (e : Event) → answer_of (width s.mode) (Ok (event_outcome s e)) ≡ event_answer s e
   unfolding event_outcome event_answer decision
   event_answered (point p) = point_answered p (decide s.mode p)
   event_answered (gap n) = refl
 
-  state_left : (o : Reference) (y : ℕ) (d : SquaredUnits) → state_of s (state_outcome s o y d) ≡ state_next s o y
+  state_left : (o : Reference) (y : ℕ) (d : SquaredUnits) → state_of s (Ok (state_outcome s o y d)) ≡ state_next s o y
   unfolding state_outcome
   state_left none y d = refl
   state_left (some x) y d = refl
 
-  point_left : (p : Point) (d : Region) → state_of s (point_outcome s (measured s.mode p d)) ≡ point_next s d
+  point_left : (p : Point) (d : Region) → state_of s (Ok (point_outcome s (measured s.mode p d))) ≡ point_next s d
   unfolding point_outcome point_next
   point_left p (State y) = state_left s.reference y _
   point_left p Origin = refl
 
-  event_left : (e : Event) → state_of s (event_outcome s e) ≡ event_next s e
+  event_left : (e : Event) → state_of s (Ok (event_outcome s e)) ≡ event_next s e
   unfolding event_outcome event_next decision
   event_left (point p) = point_left p (decide s.mode p)
   event_left (gap n) = refl
@@ -80,13 +93,19 @@ module _ (s : Receiver) where
   event_placed (point p) = point_placed (decide s.mode p)
   event_placed (gap n) = refl
 
-  answered : (e : Event) (n : ℕ) → answer_of (width s.mode) (accepted n (event_outcome s e) (Refused n)) ≡ accepted n (event_answer s e) (refused n)
-  answered e zero = event_answered e
-  answered e (suc n) = refl
+  answered_lem : (e : Event) (n : ℕ) → Listed n → answer_of (width s.mode) (answered n (event_outcome s e)) ≡ accepted n (event_answer s e) (refused n)
+  answered_lem e zero h = event_answered e
+  answered_lem e (suc n) h = ap refused (h (λ (z : suc n ≡ 0). omega arith))
 
-  left : (e : Event) (n : ℕ) → state_of s (accepted n (event_outcome s e) (Refused n)) ≡ accepted n (event_next s e) s
+  left : (e : Event) (n : ℕ) → state_of s (answered n (event_outcome s e)) ≡ accepted n (event_next s e) s
   left e zero = event_left e
   left e (suc n) = refl
+
+  -- each number that an event can be refused with is one of the list
+  listed : (e : Event) → Listed (refusal s e)
+  unfolding refusal state_refusal event_refusal named
+  listed (point p) = listed_next _ _ (listed_state _ _ _) (listed_need (in_range p) 8 _ (λ h. refl) (listed_need (has_room s 1) 16 0 (λ h. refl) none_listed))
+  listed (gap n) = listed_next _ _ (listed_state _ _ _) (listed_need (leb 1 n) 9 _ (λ h. refl) (listed_need (has_room s n) 16 0 (λ h. refl) none_listed))
 
   placed : (e : Event) (n : ℕ) → (accepted n (event_next s e) s).place.0 ≡ accepted n (s.place.0 + intervals e) s.place.0
   placed e zero = event_placed e
@@ -105,10 +124,10 @@ module _ (s : Receiver) where
   unfolding outcome answer next
   told e =
       let l : state_of s (outcome s e) ≡ next s e = left e (refusal s e) in
-      record { answer_is = answered e (refusal s e); place_is = ap (λ (t : Receiver). t.place.0) l ∙ next-placed e; state_is = l }
+      record { answer_is = answered_lem e (refusal s e) (listed e); place_is = ap (λ (t : Receiver). t.place.0) l ∙ next-placed e; state_is = l }
 
-  pub both : (e : Event) (r : Outcome) → r ≡ outcome s e → (r ≡ outcome s e) × Told s e r
-  both e r q = (q, subst (Told s e) (sym q) (told e))
+  pub told_of : (e : Event) (r : Result Outcome Refusal) → r ≡ outcome s e → Told s e r
+  told_of e r q = subst (Told s e) (sym q) (told e)
 
 -- THE WAYS OF THE CODE
 
@@ -120,20 +139,6 @@ module _ (m : ℕ) (h : Register) (o : Reference) where
   pub fields_some : (x : ℕ) (a b : Bool) → o ≡ some x → a ≡ is_state m x → b ≡ register_ok m h → a && b ≡ fields_ok m o h
   unfolding fields_ok
   fields_some x a b is p q = rw (is, p, q)
-
-module _ (s : Receiver) (f : ℕ) (e : f ≡ mode_refusal s.mode s.role) where
-  pub fault_early : (f ≡ 0 → ⊥) → f ≡ state_refusal s
-  unfolding state_refusal
-  fault_early h = e ∙ or_some (mode_refusal s.mode s.role) _ (λ z. h (e ∙ z))
-
-  module _ (h : f ≡ 0) (a : Bool) (p : a ≡ fields_ok s.mode s.reference s.line) where
-    pub fault_fields : a ≡ false → 4 ≡ state_refusal s
-    unfolding state_refusal
-    fault_fields k = rw (← e, h, ← p, k)
-
-    pub fault_nowhere : a ≡ true → 0 ≡ state_refusal s
-    unfolding state_refusal
-    fault_nowhere k = rw (← e, h, ← p, k)
 
 -- a full register
 pub full_register : (m role g full : ℕ) (h : Register) (d : Descrambled) → full ≡ capacity m → h.held.0 ≡ full → d ≡ descrambled m role (register h.bits (capacity m) h.count.0) g → d ≡ descrambled m role h g
@@ -151,91 +156,94 @@ filling_register m role g h d p u k f e ep eu ek =
 
 -- no room, and room
 module _ (s : Receiver) (n : ℕ) (r : Outcome) where
-  pub room_none : 4294967295 - s.place.0 < n → Refused 16 ≡ if_room s n r
+  pub room_none : 4294967295 - s.place.0 < n → Err Intervals ≡ if_room s n r
   unfolding if_room has_room
   room_none h = rw (lt-leb (s.place.0 + n) 4294967295 (omega arith))
 
-  pub room_some : s.place.0 ≤ 4294967295 → n ≤ 4294967295 - s.place.0 → r ≡ if_room s n r
+  pub room_some : s.place.0 ≤ 4294967295 → n ≤ 4294967295 - s.place.0 → Ok r ≡ if_room s n r
   unfolding if_room has_room
   room_some b h = rw (le-leb (s.place.0 + n) 4294967295 (omega arith))
 
 -- the outcomes from their parts
 pub lost_law : (s : Receiver) (n : ℕ) (h : Register) (t : Receiver) → s.place.0 ≤ 4294967295 → n ≤ 4294967295 - s.place.0 → h ≡ fresh
-    → t ≡ receiver s.mode s.role none h (s.place.0 + n) → Gap (record { 0 = n }) t ≡ if_room s n (gap_outcome s n)
+    → t ≡ receiver s.mode s.role none h (s.place.0 + n) → Ok (Gap (record { 0 = n }) t) ≡ if_room s n (gap_outcome s n)
 unfolding forgotten
 lost_law s n h t b k e q = rw (q, e) (room_some s n (gap_outcome s n) b k)
 
 module _ (s : Receiver) (o : Reference) (y : ℕ) (u : SquaredUnits) (t : Receiver) (b : s.place.0 ≤ 4294967295) (k : 1 ≤ 4294967295 - s.place.0) where
-  pub reference_law : o ≡ none → t ≡ receiver s.mode s.role (some y) s.line (s.place.0 + 1) → Referenced u t ≡ if_room s 1 (state_outcome s o y u)
+  pub reference_law : o ≡ none → t ≡ receiver s.mode s.role (some y) s.line (s.place.0 + 1) → Ok (Referenced u t) ≡ if_room s 1 (state_outcome s o y u)
   unfolding state_outcome state_next state_line
   reference_law is q = rw (q, is) (room_some s 1 _ b k)
 
   pub bits_law : (x g : ℕ) (d : Descrambled) → o ≡ some x → g ≡ group s.mode (face s.mode x) y → d ≡ descrambled s.mode s.role s.line g
       → t ≡ receiver s.mode s.role (some y) d.next (s.place.0 + 1)
-      → Bits (record { line = g; plain = d.plain; unsettled = d.unsettled }) u t ≡ if_room s 1 (state_outcome s o y u)
+      → Ok (Bits (record { line = g; plain = d.plain; unsettled = d.unsettled }) u t) ≡ if_room s 1 (state_outcome s o y u)
   unfolding state_outcome state_next state_line group_of descrambled
   bits_law x g d is e q r = rw (r, q, e, is) (room_some s 1 _ b k)
 
 -- a refused event, and an accepted one
-refused_by_lem : {A : Type 0} (numbered : ℕ → A) (r : A) (f n : ℕ) → f ≡ n → (f ≡ 0 → ⊥) → numbered f ≡ accepted n r (numbered n)
-refused_by_lem numbered r f zero e h = absurd (h e)
-refused_by_lem numbered r f (suc n) e h = ap numbered e
-
-last_room : (b : Bool) (r : Outcome) → cond b r (Refused 16) ≡ accepted (need b 16 0) r (Refused (need b 16 0))
+last_room : (b : Bool) (r : Outcome) → cond b (Ok r) (Err Intervals) ≡ answered (need b 16 0) r
+unfolding named
 last_room true r = refl
 last_room false r = refl
 
-module _ (s : Receiver) (f : ℕ) (a : f ≡ state_refusal s) where
-  pub outcome_fault : (e : Event) → (f ≡ 0 → ⊥) → Refused f ≡ outcome s e
+module _ (s : Receiver) where
+  pub outcome_fault : (e : Event) (f : Refusal) → number f ≡ state_refusal s → Err f ≡ outcome s e
   unfolding outcome refusal
-  outcome_fault e h = refused_by_lem Refused (event_outcome s e) f (or_next (state_refusal s) (event_refusal s e)) (a ∙ or_some (state_refusal s) _ (λ z. h (a ∙ z))) h
+  outcome_fault e f a = answer_refused f (or_next (state_refusal s) (event_refusal s e)) (event_outcome s e) (a ∙ or_some (state_refusal s) _ (λ z. some_number f (a ∙ z)))
 
-  module _ (z : f ≡ 0) where
-    pub gap_none : (n : ℕ) → n < 1 → Refused 9 ≡ outcome s (gap n)
-    unfolding outcome refusal event_refusal
-    gap_none n h = rw (← a, z, lt-leb 1 n h)
+  module _ (z : state_refusal s ≡ 0) where
+    pub gap_none : (n : ℕ) → n < 1 → Err NoIntervals ≡ outcome s (gap n)
+    unfolding outcome refusal event_refusal named
+    gap_none n h = rw (z, lt-leb 1 n h)
 
-    pub gap_some : (n : ℕ) (r : Outcome) → 1 ≤ n → r ≡ if_room s n (gap_outcome s n) → r ≡ outcome s (gap n)
+    pub gap_some : (n : ℕ) (r : Result Outcome Refusal) → 1 ≤ n → r ≡ if_room s n (gap_outcome s n) → r ≡ outcome s (gap n)
     unfolding outcome refusal event_refusal event_outcome if_room
-    gap_some n r h q = rw (← a, z, le-leb 1 n h) (q ∙ last_room (has_room s n) (gap_outcome s n))
+    gap_some n r h q = rw (z, le-leb 1 n h) (q ∙ last_room (has_room s n) (gap_outcome s n))
 
     -- the coordinates as they were passed on
     module _ (re im : ℤ) (i : Bool) (re' im' : ℤ) (b : i ≡ in_range (at re' im')) (x : re' ≡ re) (y : im' ≡ im) where
-      pub point_far : i ≡ false → Refused 8 ≡ outcome s (point (at re im))
-      unfolding outcome refusal event_refusal
-      point_far h = rw (← a, z, ← x, ← y, ← b, h)
+      pub point_far : i ≡ false → Err Coordinate ≡ outcome s (point (at re im))
+      unfolding outcome refusal event_refusal named
+      point_far h = rw (z, ← x, ← y, ← b, h)
 
-      module _ (h : i ≡ true) (d : Decision) (q : d ≡ decision s.mode (at re' im')) where
+      module _ (h : i ≡ true) (d : Option Decided) (q : d ≡ decision s.mode (at re' im')) where
         point_in : if_room s 1 (point_outcome s d) ≡ outcome s (point (at re im))
         unfolding outcome refusal event_refusal event_outcome if_room
-        point_in = rw (← a, z, ← x, ← y, ← b, h, ← q) (last_room (has_room s 1) (point_outcome s d))
+        point_in = rw (z, ← x, ← y, ← b, h, ← q) (last_room (has_room s 1) (point_outcome s d))
 
-        point_as : (c : Decision) (r : Outcome) → d ≡ c → r ≡ if_room s 1 (point_outcome s c) → r ≡ outcome s (point (at re im))
-        point_as c r is e = e ∙ ap (λ (u : Decision). if_room s 1 (point_outcome s u)) (sym is) ∙ point_in
+        point_as : (c : Option Decided) (r : Result Outcome Refusal) → d ≡ c → r ≡ if_room s 1 (point_outcome s c) → r ≡ outcome s (point (at re im))
+        point_as c r is e = e ∙ ap (λ (u : Option Decided). if_room s 1 (point_outcome s u)) (sym is) ∙ point_in
 
-        pub point_state : (n : ℕ) (u : SquaredUnits) (r : Outcome) → d ≡ DecidedAs n u → r ≡ if_room s 1 (state_outcome s s.reference n u) → r ≡ outcome s (point (at re im))
+        pub point_state : (u : Decided) (r : Result Outcome Refusal) → d ≡ Some u → r ≡ if_room s 1 (state_outcome s s.reference u.state u.distance) → r ≡ outcome s (point (at re im))
         unfolding point_outcome
-        point_state n u r is e = point_as (DecidedAs n u) r is e
+        point_state u r is e = point_as (Some u) r is e
 
-        pub point_origin : (r : Outcome) → d ≡ AtOrigin → r ≡ if_room s 1 (gap_outcome s 1) → r ≡ outcome s (point (at re im))
+        pub point_origin : (r : Result Outcome Refusal) → d ≡ None → r ≡ if_room s 1 (gap_outcome s 1) → r ≡ outcome s (point (at re im))
         unfolding point_outcome
-        point_origin r is e = point_as AtOrigin r is e
+        point_origin r is e = point_as None r is e
 
 -- A FRESH RECEIVER
 
-made : (m role n : ℕ) → n ≡ mode_refusal m role → Made m role (accepted n (Ready (fresh_receiver m role)) (NotStarted n))
-made m role zero e = record { number = e; made = ap (λ (k : ℕ). accepted k (fresh_receiver m role ∷ []) []) e }
-made m role (suc n) e = record { number = e; made = ap (λ (k : ℕ). accepted k (fresh_receiver m role ∷ []) []) e }
+module _ (m role : ℕ) where
+  made : (n : ℕ) → Listed n → n ≡ mode_refusal m role → Made m role (answered n (fresh_receiver m role))
+  made zero h e = record { number = e; made = ap (λ (k : ℕ). accepted k (fresh_receiver m role ∷ []) []) e }
+  made (suc n) h e = record { number = h (λ (z : suc n ≡ 0). omega arith) ∙ e; made = ap (λ (k : ℕ). accepted k (fresh_receiver m role ∷ []) []) e }
 
-module _ (m role f : ℕ) (e : f ≡ mode_refusal m role) where
-  both_started : (r : Started) → r ≡ started m role → (r ≡ started m role) × Made m role r
+  pub both_started : (r : Result Receiver Refusal) → r ≡ started m role → (r ≡ started m role) × Made m role r
   unfolding started
-  both_started r q = (q, subst (Made m role) (sym q) (made m role (mode_refusal m role) refl))
+  both_started r q = (q, subst (Made m role) (sym q) (made (mode_refusal m role) (listed_mode m role) refl))
 
-  pub started_fault : (f ≡ 0 → ⊥) → (NotStarted f ≡ started m role) × Made m role (NotStarted f)
+  pub started_refused : (f : Refusal) → number f ≡ mode_refusal m role → Err f ≡ started m role
   unfolding started
-  started_fault h = both_started (NotStarted f) (refused_by_lem NotStarted (Ready (fresh_receiver m role)) f (mode_refusal m role) e h)
+  started_refused f e = answer_refused f (mode_refusal m role) (fresh_receiver m role) e
 
-  pub started_ready : (h : Register) → f ≡ 0 → h ≡ fresh → (Ready (receiver m role none h 0) ≡ started m role) × Made m role (Ready (receiver m role none h 0))
+  pub made_refused : (f : Refusal) → number f ≡ mode_refusal m role → Made m role (Err f)
+  made_refused f e = (both_started (Err f) (started_refused f e)).1
+
+  pub started_ready : (h : Register) → 0 ≡ mode_refusal m role → h ≡ fresh → Ok (receiver m role none h 0) ≡ started m role
   unfolding started fresh_receiver
-  started_ready h z q = both_started (Ready (receiver m role none h 0)) (rw (← e, z, q))
+  started_ready h z q = rw (← z, q)
+
+  pub made_ready : (h : Register) → 0 ≡ mode_refusal m role → h ≡ fresh → Made m role (Ok (receiver m role none h 0))
+  made_ready h z q = (both_started (Ok (receiver m role none h 0)) (started_ready h z q)).1

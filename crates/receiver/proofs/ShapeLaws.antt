@@ -20,7 +20,7 @@ use Rattle.scrambler.specs.Scramble.{Datum, descramble}
 use Rattle.scrambler.proofs.BitLaws.{length-bits}
 use Rattle.scrambler.proofs.GroupLaws.{descramble_append, length-descramble}
 use Rattle.scrambler.proofs.RegisterLaws.{Ok}
-use Rattle.receiver.specs.declared.Reference.TheVariants.{State as some}
+use Rattle.std.specs.Prelude.{Some as some}
 use Rattle.receiver.specs.declared.Receiver.{Receiver}
 use Rattle.receiver.specs.Receiver.{receiver, Event, point, gap, refusal, refused, decoded, line_bits, state_answer, point_answer, event_answer, answer, state_line, state_next, point_next, event_next, next}
 use Rattle.line.specs.Table.{All}

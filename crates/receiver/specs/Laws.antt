@@ -7,7 +7,7 @@ use Rattle.deciding.specs.Distance.{distance}
 use Rattle.line.specs.Refusal.{mode_refusal}
 use Rattle.scrambler.specs.Register.{fresh}
 use Rattle.scrambler.specs.Scramble.{unsettled}
-use Rattle.receiver.specs.declared.Reference.TheVariants.{Nothing as none}
+use Rattle.std.specs.Prelude.{None as none}
 use Rattle.receiver.specs.declared.Receiver.{Receiver}
 use Rattle.receiver.specs.Receiver.{fresh_receiver, Event, point, gap, state_refusal, refusal, reference, decoded, lost, answer, next}
 use Rattle.receiver.specs.Calls.{after, heard, answers, heard_intervals, decided_as, distances_of}

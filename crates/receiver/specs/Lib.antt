@@ -1,3 +1,4 @@
+pub mod Reference
 pub mod Receiver
 pub mod Outcome
 pub mod Calls

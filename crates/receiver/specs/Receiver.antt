@@ -12,8 +12,8 @@ use Rattle.scrambler.specs.declared.Register.{Register}
 use Rattle.scrambler.specs.Bits.{bits}
 use Rattle.scrambler.specs.Register.{fresh, pushes, register_ok}
 use Rattle.scrambler.specs.Scramble.{Datum, descramble}
-use Rattle.receiver.specs.declared.Reference.{Reference}
-use Rattle.receiver.specs.declared.Reference.TheVariants.{Nothing as none, State as some}
+use Rattle.receiver.specs.Reference.{Reference}
+use Rattle.std.specs.Prelude.{None as none, Some as some}
 use Rattle.receiver.specs.declared.Receiver.{Receiver}
 
 abbrev pub receiver : ℕ → ℕ → Reference → Register → ℕ → Receiver

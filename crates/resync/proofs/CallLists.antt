@@ -7,7 +7,7 @@ use lib.Dec.{T}
 use lib.Ieee.{Float}
 use Rattle.line.specs.Point.{pairs}
 use Rattle.line.specs.Table.{every}
-use Rattle.line.specs.Refusal.{accepted}
+use Rattle.line.specs.Refusal.{answered, accepted}
 use Rattle.line.proofs.RefusalLaws.{need_met, next_rest}
 use Rattle.line.proofs.TableLaws.{is_true, and_left, and_right, and_intro}
 use Rattle.levels.specs.Levels.{is_finite, rounded}
@@ -15,7 +15,6 @@ use Rattle.receiver.specs.declared.Receiver.{Receiver}
 use Rattle.receiver.specs.Receiver.{Event, point, state_refusal, event_refusal, event_next, next}
 use Rattle.receiver.specs.Calls.{after, EachAccepted, heard}
 use Rattle.receiver.proofs.CallLaws.{after_append, heard_append, heard-accepted}
-use Rattle.bulk.specs.declared.Block.TheVariants.{Refused as NotTaken, Taken}
 use Rattle.bulk.specs.Block.{Given, in_levels, points_of, Lent, block_refusal, state_of, block}
 use Rattle.bulk.proofs.BlockLaws.{one_by_one as each_accepted, all_finite}
 use Rattle.readings.specs.declared.Reading.{Reading}
@@ -45,7 +44,7 @@ of_block : (s : Receiver) (g : Given) (n : Lent) → (state_of s (block s g n) �
 unfolding block
 of_block s g n = by (block_refusal s g n)
   where
-    by : (k : ℕ) → (state_of s (accepted k (Taken (after s (map point (points_of g)))) (NotTaken k)) ≡ after s (accepted k (map point (points_of g)) []))
+    by : (k : ℕ) → (state_of s (answered k (after s (map point (points_of g)))) ≡ after s (accepted k (map point (points_of g)) []))
         × (accepted k (heard s (map point (points_of g))) [] ≡ heard s (accepted k (map point (points_of g)) []))
     by zero = (refl, refl)
     by (suc k) = (refl, refl)

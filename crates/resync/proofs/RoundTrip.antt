@@ -14,7 +14,8 @@ use Rattle.scrambler.specs.declared.Register.{Register}
 use Rattle.scrambler.specs.Register.{register_ok, pushes}
 use Rattle.scrambler.specs.Scramble.{scramble, settled, descramble}
 use Rattle.scrambler.proofs.RegisterLaws.{passes}
-use Rattle.receiver.specs.declared.Reference.TheVariants.{State as some}
+use Rattle.std.specs.Prelude.{Some as some, Result, Ok, Err}
+use Rattle.line.specs.declared.refusal.Refusal.{Refusal}
 use Rattle.receiver.specs.declared.Receiver.{Receiver}
 use Rattle.receiver.specs.Receiver.{receiver, point, fields_ok, state_refusal, refusal, state_line, state_next, point_next, event_next, next}
 use Rattle.receiver.specs.Calls.{after, EachAccepted, Heard, heard, IsPoint, decided_states, row}
@@ -23,8 +24,6 @@ use Rattle.receiver.proofs.CallLaws.{no_refusal, heard-accepted, heard_all}
 use Rattle.receiver.proofs.ShapeLaws.{Follows, follow}
 use Rattle.bulk.proofs.BlockLaws.{accepts}
 use Rattle.sender.specs.declared.Sender.{Sender}
-use Rattle.sender.specs.declared.Sent.{Sent}
-use Rattle.sender.specs.declared.Sent.TheVariants.{Refused, Ready}
 use Rattle.sender.specs.Sender.{groups, grouped, after_group, after_groups}
 use Rattle.sender.specs.Calls.{Send, DataPoint, answer, handed_on, data_of, data_points}
 use Rattle.sender.proofs.RefusalLaws.{StateOk, send_ok}
@@ -100,15 +99,15 @@ groups-sent m s [] = refl
 groups-sent m s (g ∷ gs) = ap (λ (l : List (List ℕ)). g ∷ l) (groups-sent m (after_group s g) gs)
 
 -- a call hands on the sender after the groups of its data points, and was given their bits
-of_call : (s : Sender) (c : Send) (a : Sent) → answer s c ≡ a → (handed_on a s ≡ after_groups s (groups_of (data_of a s c))) × (bits_of a c ≡ row (groups_of (data_of a s c)))
+of_call : (s : Sender) (c : Send) (a : Result Sender Refusal) → answer s c ≡ a → (handed_on a s ≡ after_groups s (groups_of (data_of a s c))) × (bits_of a c ≡ row (groups_of (data_of a s c)))
 unfolding grouped
-of_call s c (Refused n) e = (refl, refl)
-of_call s c (Ready t) e =
+of_call s c (Err n) e = (refl, refl)
+of_call s c (Ok t) e =
     let w : ℕ = width s.mode in
     let a = accepted-call s c.bits (length c.lent) c.offset t e in
     let whole = (send_ok s c.bits (length c.lent) c.offset a.none).1.whole in
-    let g : groups_of (data_of (Ready t) s c) ≡ grouped w c.bits =
-    ap groups_of (sym (ap (λ (x : Sent). data_of x s c) e) ∙ data_sent s t c e) ∙ groups-sent s.mode s (grouped w c.bits) in
+    let g : groups_of (data_of (Ok t) s c) ≡ grouped w c.bits =
+    ap groups_of (sym (ap (λ (x : Result Sender Refusal). data_of x s c) e) ∙ data_sent s t c e) ∙ groups-sent s.mode s (grouped w c.bits) in
     (a.after ∙ ap (after_groups s) (sym g), sym (ap row g ∙ row-groups w _ c.bits (whole_length w c.bits whole)))
 
 of_calls : (s : Sender) (cs : List Send) → (sender_after s cs ≡ after_groups s (groups_of (data_points s cs))) × (given_to s cs ≡ row (groups_of (data_points s cs)))

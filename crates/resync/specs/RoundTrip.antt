@@ -1,13 +1,11 @@
 -- The bits that a sender was given come back from its points, through a receiver that has its reference and register.
-use Rattle.std.specs.Prelude.{ℕ, ◌+◌, ◌≤◌, ◌≡◌, List, [], ◌∷◌, ◌++◌, map, length}
+use Rattle.std.specs.Prelude.{ℕ, ◌+◌, ◌≤◌, ◌≡◌, List, [], ◌∷◌, ◌++◌, map, length, Some as some, Result, Ok, Err}
 use Rattle.scrambler.specs.Scramble.{scramble, settled}
-use Rattle.receiver.specs.declared.Reference.TheVariants.{State as some}
 use Rattle.receiver.specs.declared.Receiver.{Receiver}
 use Rattle.receiver.specs.Receiver.{receiver}
 use Rattle.receiver.specs.Calls.{after, EachAccepted, Heard, heard, lines_heard, data_heard, row}
 use Rattle.sender.specs.declared.Sender.{Sender}
-use Rattle.sender.specs.declared.Sent.{Sent}
-use Rattle.sender.specs.declared.Sent.TheVariants.{Refused, Ready}
+use Rattle.line.specs.declared.refusal.Refusal.{Refusal}
 use Rattle.sender.specs.Calls.{Send, answer, handed_on, data_points}
 use Rattle.resync.specs.DataPoints.{received}
 
@@ -16,9 +14,9 @@ abbrev pub sender_after : Sender → List Send → Sender
 sender_after s [] = s
 sender_after s (c ∷ cs) = sender_after (handed_on (answer s c) s) cs
 
-abbrev pub bits_of : Sent → Send → List ℕ
-bits_of (Refused n) c = []
-bits_of (Ready t) c = c.bits
+abbrev pub bits_of : Result Sender Refusal → Send → List ℕ
+bits_of (Err n) c = []
+bits_of (Ok t) c = c.bits
 
 abbrev pub given_to : Sender → List Send → List ℕ
 given_to s [] = []

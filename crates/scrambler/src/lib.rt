@@ -70,7 +70,8 @@ pub fn register_ok(mode: u8, h: Register) -> bool
     }
 }
 
-// ---- without the guard: a mode's column c, 1 to 4
+// ---- without the guard: a mode's column c, 1 to 4. Why it is a number: `line::column_of`. Width and register are said once more by the
+// column (`width_in`, `capacity_in`), since by the mode the compiler would find the column at each.
 
 // The nearer tap.
 fn near_tap(c: u8, role: u8) -> u8
@@ -172,7 +173,7 @@ fn push_group(c: u8, h: Register, g: u8) -> Register
     let full = capacity_in(c);
     let low = low_bits(c, g as u32) as u64;
     let bits = keep_bits(c, n * group_size(w) + low);
-    let more = if full - w <= held { full } else { held + w };
+    let more = held.saturating_add(w).min(full);
     Register {
         bits,
         held: BitCount(more),
@@ -186,13 +187,7 @@ fn group_size(w: u8) -> u64
     ensures value { result ≡ 2 ^ w }
     ensures upper_bound { result ≤ 16 }
 {
-    if w == 2 {
-        4
-    } else if w == 3 {
-        8
-    } else {
-        16
-    }
+    1 << u32::from(w)
 }
 
 // The line bits of w data bits in the mode of the column. It has one caller, so that it is put in line there.
@@ -246,8 +241,7 @@ pub fn descramble_next(mode: u8, role: u8, n: u32, line: u8) -> Descrambled
 fn unsettled_bits(w: u8, full: u8, held: u8) -> u8
     ensures { result ≡ min (full - held) w }
 {
-    let missing = if full <= held { 0 } else { full - held };
-    if w <= missing { w } else { missing }
+    full.saturating_sub(held).min(w)
 }
 
 // How many of the w data bits of a group are unsettled, with so many line bits held before it.
@@ -263,19 +257,7 @@ fn without_first(w: u8, u: u8, x: u8) -> u8
     requires { (u ≤ w) × (w ≤ 4) × (x < 2 ^ w) }
     ensures { result ≡ x % 2 ^ (w - u) }
 {
-    if u == 0 {
-        return x;
-    }
-    let left = w - u;
-    if left == 0 {
-        0
-    } else if left == 1 {
-        x % 2
-    } else if left == 2 {
-        x % 4
-    } else {
-        x % 8
-    }
+    x % (1 << u32::from(w - u))
 }
 
 // The data bits of a group without the unsettled ones.
@@ -294,10 +276,10 @@ pub fn held_after(mode: u8, held: u8) -> u8
 {
     let w = line::width_of(mode);
     let full = line::capacity_of(mode);
-    if full - w <= held { full } else { held + w }
+    held.saturating_add(w).min(full)
 }
 
-// ---- with the guard
+// ---- with the guard: for a register that may lack bits, and again for a full one, since what is constant there lets the compiler put it in line
 
 // What the guard does to a group: the bits that it inverts, the first in time highest, and its count after them.
 #[derive(Clone, Copy)]
@@ -413,7 +395,7 @@ fn push_counted(mode: u8, h: Register, g: u8, count: u8) -> Register
     let full = line::capacity_of(mode);
     let low = low_bits(line::column_of(mode), g as u32) as u64;
     let bits = keep_of(mode, n * group_size(w) + low);
-    let more = if full - w <= held { full } else { held + w };
+    let more = held.saturating_add(w).min(full);
     Register {
         bits,
         held: BitCount(more),

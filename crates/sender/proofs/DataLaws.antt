@@ -8,15 +8,15 @@ use lib.Dec.{T}
 use lib.IntN.{ℤ, pos}
 use lib.ListN.{length, get_or, set, length-set}
 use lib.Seq.{sets, get_or-set_same, get_or-set_other}
+use Rattle.std.specs.Prelude.{Result, Ok, Err}
 use Rattle.line.specs.declared.Point.{Point}
+use Rattle.line.specs.declared.refusal.Refusal.{Refusal}
 use Rattle.line.specs.Table.{every}
 use Rattle.line.specs.Mode.{width}
 use Rattle.line.specs.Point.{sent_point}
 use Rattle.scrambler.specs.Bits.{is_bit}
 use Rattle.training.specs.Coder.{numbers}
 use Rattle.sender.specs.declared.Sender.{Sender}
-use Rattle.sender.specs.declared.Sent.{Sent}
-use Rattle.sender.specs.declared.Sent.TheVariants.{Refused, Ready}
 use Rattle.sender.specs.Sender.{grouped, after_group, after_groups, sent_states}
 use Rattle.sender.specs.Calls.{Send, DataPoint, answer, handed_on, standing, data_of, data_points}
 use Rattle.sender.proofs.RefusalLaws.{StateOk, state_ok, send_ok}
@@ -56,13 +56,13 @@ standing-sent m s (g ∷ gs) out k h =
     simp towards_suc (ap₂ (λ (x : Point) (ds : List DataPoint). record { point = x; bits = g } ∷ ds) (λ i. record { re = re i; im = im i }) rest)
 
 -- the data points of an accepted call are the points of the states that its groups are coded as
-pub data_sent : (s t : Sender) (c : Send) → answer s c ≡ Ready t → data_of (answer s c) s c ≡ points_of s.mode s (grouped (width s.mode) c.bits)
+pub data_sent : (s t : Sender) (c : Send) → answer s c ≡ Ok t → data_of (answer s c) s c ≡ points_of s.mode s (grouped (width s.mode) c.bits)
 data_sent s t c e =
     let w : ℕ = width s.mode in
     let a = accepted-call s c.bits (length c.lent) c.offset t e in
     let k = (send_ok s c.bits (length c.lent) c.offset a.none).1 in
     let r = k.room in
-    ap (λ (x : Sent). data_of x s c) e
+    ap (λ (x : Result Sender Refusal). data_of x s c) e
     ∙ ap (λ (ns : List ℤ). standing ns c.offset (grouped w c.bits)) (numbers_met s c.bits c.lent c.offset a.none)
     ∙ standing-sent s.mode s (grouped w c.bits) c.lent c.offset (omega (arith, length-grouped (width s.mode) c.bits))
 
@@ -87,13 +87,13 @@ made-groups m s (g ∷ gs) rest e k w r =
       made-groups m (after_group s g) gs rest (e ∙ sym (group_mode s g)) (state_ok (after_group s g) (state_after_lem s g k l)) w.2 r,
     )
 
-made-call : (s : Sender) (c : Send) (a : Sent) → answer s c ≡ a → (rest : List DataPoint) → Made (handed_on a s) rest → Made s (data_of a s c ++ rest)
-made-call s c (Refused n) e rest r = r
-made-call s c (Ready t) e rest r =
+made-call : (s : Sender) (c : Send) (a : Result Sender Refusal) → answer s c ≡ a → (rest : List DataPoint) → Made (handed_on a s) rest → Made s (data_of a s c ++ rest)
+made-call s c (Err n) e rest r = r
+made-call s c (Ok t) e rest r =
     let a = accepted-call s c.bits (length c.lent) c.offset t e in
     let k = send_ok s c.bits (length c.lent) c.offset a.none in
     let gs : List (List ℕ) = grouped (width s.mode) c.bits in
-    subst (λ (ds : List DataPoint). Made s (ds ++ rest)) (sym (data_sent s t c e) ∙ ap (λ (x : Sent). data_of x s c) e)
+    subst (λ (ds : List DataPoint). Made s (ds ++ rest)) (sym (data_sent s t c e) ∙ ap (λ (x : Result Sender Refusal). data_of x s c) e)
     (made-groups s.mode s gs rest refl k.0 (groups-accepted s.mode c.bits (length c.lent) c.offset k.1)
     (subst (λ (x : Sender). Made x rest) a.after r))
 

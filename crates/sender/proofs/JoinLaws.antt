@@ -13,14 +13,14 @@ use lib.ListN.{set, length, drop, length-drop, length-append}
 use lib.Seq.{sets, length-sets, take-append-le, drop-append-le}
 use Rattle.line.specs.Table.{every}
 use Rattle.line.specs.Mode.{width}
-use Rattle.line.specs.Refusal.{or_next, accepted}
+use Rattle.line.specs.Refusal.{answered, or_next}
 use Rattle.line.proofs.ByMode.{width_range}
 use Rattle.line.proofs.TableLaws.{every_append}
 use Rattle.line.proofs.RefusalLaws.{need_intro}
 use Rattle.scrambler.specs.Bits.{is_bit}
 use Rattle.training.specs.Coder.{numbers}
 use Rattle.sender.specs.declared.Sender.{Sender}
-use Rattle.sender.specs.declared.Sent.TheVariants.{Refused, Ready}
+use Rattle.std.specs.Prelude.{Ok}
 use Rattle.sender.specs.Sender.{has_room, data_refusal, send_refusal, groups, grouped, after_group, after_groups, sent_states, send_answer, send_numbers}
 use Rattle.sender.specs.Calls.{SentTogether}
 use Rattle.sender.proofs.RefusalLaws.{StateOk, state_accepted, DataOk, send_ok}
@@ -102,15 +102,15 @@ pub record Accepted (s : Sender) (ds : List ℕ) (lent offset : ℕ) (t : Sender
   pub none : send_refusal s ds lent offset ≡ 0
   pub after : t ≡ after_groups s (grouped (width s.mode) ds)
 
-pub accepted-call : (s : Sender) (ds : List ℕ) (lent offset : ℕ) (t : Sender) → send_answer s ds lent offset ≡ Ready t → Accepted s ds lent offset t
+pub accepted-call : (s : Sender) (ds : List ℕ) (lent offset : ℕ) (t : Sender) → send_answer s ds lent offset ≡ Ok t → Accepted s ds lent offset t
 unfolding send_answer
 accepted-call s ds lent offset t = go (send_refusal s ds lent offset) refl
   where
-    go : (n : ℕ) → send_refusal s ds lent offset ≡ n → accepted n (Ready (after_groups s (grouped (width s.mode) ds))) (Refused n) ≡ Ready t → Accepted s ds lent offset t
+    go : (n : ℕ) → send_refusal s ds lent offset ≡ n → answered n (after_groups s (grouped (width s.mode) ds)) ≡ Ok t → Accepted s ds lent offset t
     go zero z e = record { none = z; after = cc }
     go (suc n) z e = absurd (let q : ◌≡◌ {A = ℕ} 0 1 = cc in omega arith)
 
-pub answer_met : (s : Sender) (ds : List ℕ) (lent offset : ℕ) → send_refusal s ds lent offset ≡ 0 → send_answer s ds lent offset ≡ Ready (after_groups s (grouped (width s.mode) ds))
+pub answer_met : (s : Sender) (ds : List ℕ) (lent offset : ℕ) → send_refusal s ds lent offset ≡ 0 → send_answer s ds lent offset ≡ Ok (after_groups s (grouped (width s.mode) ds))
 unfolding send_answer
 answer_met s ds lent offset z = rw z
 
@@ -145,7 +145,7 @@ sent_together s t u ds es out offset p q =
     let g = grouped_append w ds es pos-w k.1.whole in
     let e : grouped (width t.mode) es ≡ grouped w es = ap (λ (x : ℕ). grouped (width x) es) m in (
       answer_met s (ds ++ es) (length out) offset z
-          ∙ ap Ready (ap (after_groups s) g ∙ after_append s (grouped w ds) (grouped w es)
+          ∙ ap Ok (ap (after_groups s) g ∙ after_append s (grouped w ds) (grouped w es)
           ∙ ap₂ after_groups (sym a.after) (sym e) ∙ sym b.after),
       numbers_met s (ds ++ es) out offset z
           ∙ ap (λ (x : List (List ℕ)). sets out offset (numbers s.mode (sent_states s x))) g

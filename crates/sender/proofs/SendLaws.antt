@@ -1,15 +1,16 @@
 -- Sending groups: one turn of the point writer's loop, and what a lent part becomes. Assumes nothing.
-use Prim.Native.Nat.{ℕ, zero, suc, ◌+◌, ◌*◌, ◌-◌, ◌%◌, ◌<◌, ◌≤◌, min}
-use mathlib.Core.Path.{◌≡◌, refl, sym, ◌∙◌, ap, ap₂}
+use Prim.Native.Nat.{ℕ, zero, suc, ◌+◌, ◌*◌, ◌-◌, ◌/◌, ◌%◌, ◌<◌, ◌≤◌, min}
+use mathlib.Core.Path.{◌≡◌, refl, sym, ◌∙◌, ap, ap₂, subst}
 use mathlib.Core.Bool.{false}
-use mathlib.Core.List.{List, [], ◌∷◌}
-use native.Mathlib.Numerals.{sub-one, towards_suc}
-use native.Mathlib.Nat.{suc-mul, lt_irrefl, add-sub_cancel_left}
+use mathlib.Core.List.{List, [], ◌∷◌, ◌++◌}
+use native.Mathlib.Numerals.{add-one, towards_suc}
+use native.Mathlib.Nat.{div-eq_of_lt, div-eq-sub-div}
 use native.Mathlib.Omega.{arith}
 use lib.Dec.{T, ltb, ltb→lt}
 use lib.IntN.{ℤ, pos}
-use lib.ListN.{length, get_or, take, drop, set, length-set, length-take, length-drop}
-use lib.Seq.{drop-drop, sets}
+use lib.ListN.{length, get_or, take, drop, set, length-set, length-append}
+use Rattle.std.proofs.lemmas.List.{take_at, drop_at}
+use lib.Seq.{sets}
 use Rattle.line.specs.Table.{every, Tabled}
 use Rattle.line.specs.Mode.{column, width, face, guarded, capacity}
 use Rattle.coding.specs.Code.{coded}
@@ -30,7 +31,7 @@ use Rattle.scrambler.proofs.GroupLaws.{plain_column}
 use Rattle.training.specs.Coder.{numbers}
 use Rattle.training.proofs.CoderLaws.{code_law}
 use Rattle.sender.specs.declared.Sender.{Sender}
-use Rattle.sender.specs.Sender.{coder_of, sender_of, groups, after_group, after_groups, sent_states}
+use Rattle.sender.specs.Sender.{coder_of, sender_of, groups, grouped, after_group, after_groups, sent_states}
 
 -- BITS
 
@@ -138,27 +139,18 @@ module _ (s : Sender) (f : s.line ≡ register s.line.bits (capacity s.mode) 0) 
 -- A LIST OF GROUPS
 
 -- the bits of the number of a group that is whole
-pub whole-bits : (w at n : ℕ) (ds : List ℕ) → T (every is_bit ds) → at + w ≤ length ds → n ≡ value (take (at + w - at) (drop at ds)) → bits w n ≡ take (at + w - at) (drop at ds)
-whole-bits w at n ds t h e =
-    let g : List ℕ = take (at + w - at) (drop at ds) in
-    let l : w ≡ length g = sym (rw (length-take, length-drop) (omega arith)) in
-    ap₂ bits l e ∙ bits-value g (every_take is_bit (at + w - at) (drop at ds) (every_drop is_bit at ds t))
-
--- a group of a writer has two to four bytes, and they are bits
-pub group-bits : (w at : ℕ) (ds : List ℕ) → 2 ≤ w → w ≤ 4 → at + w ≤ length ds → T (every is_bit ds)
-    → (2 ≤ length (take (at + w - at) (drop at ds))) × (length (take (at + w - at) (drop at ds)) ≤ 4) × T (every is_bit (take (at + w - at) (drop at ds)))
-group-bits w at ds g h k t =
-    let l : length (take (at + w - at) (drop at ds)) ≡ w = rw (length-take, length-drop) (omega arith) in
-    (omega arith, omega arith, every_take is_bit (at + w - at) (drop at ds) (every_drop is_bit at ds t))
+whole-bits : (w n : ℕ) (g : List ℕ) → T (every is_bit g) → length g ≡ w → n ≡ value g → bits w n ≡ g
+whole-bits w n g t l e = ap₂ bits (sym l) e ∙ bits-value g t
 
 -- one group less to send
-pub less : (n w : ℕ) → 0 < n → n * w ≡ w + (n - 1) * w
-less zero w h = absurd (lt_irrefl 0 h)
-less (suc n) w h = rw sub-one (omega (arith, suc-mul n w))
+pub less : (w n : ℕ) → 0 < w → (w + n) / w ≡ suc (n / w)
+less w n h = div-eq-sub-div h (let z : w ≤ w + n = omega arith in z) ∙ ap (λ (k : ℕ). k / w + 1) (let z : w + n - w ≡ n = omega arith in z) ∙ add-one (n / w)
 
-groups-step : (w at n : ℕ) (ds : List ℕ) → 0 < n → groups w n (drop at ds) ≡ take (at + w - at) (drop at ds) ∷ groups w (n - 1) (drop (at + w) ds)
-groups-step w at zero ds h = absurd (lt_irrefl 0 h)
-groups-step w at (suc n) ds h = simp (add-sub_cancel_left, ← drop-drop, sub-one)
+groups-step : (w : ℕ) (rest g more : List ℕ) → 0 < w → rest ≡ g ++ more → length g ≡ w → grouped w rest ≡ g ∷ grouped w more
+unfolding grouped
+groups-step w rest g more h e l =
+    ap (grouped w) e ∙ ap (λ (n : ℕ). groups w n (g ++ more)) (ap (λ (n : ℕ). n / w) (length-append g more ∙ ap (λ (n : ℕ). n + length more) l) ∙ less w (length more) h)
+    ∙ ap₂ (λ (a b : List ℕ). a ∷ groups w (length more / w) b) (take_at g more w l) (drop_at g more w l)
 
 -- the point that the writer looks up
 pub looked_up : (m s : ℕ) (ps : List Point) → Tabled 16 (sent_point m) (at (pos 0) (pos 0)) ps → get_or ps (s % 16) (at (pos 0) (pos 0)) ≡ sent_point m s
@@ -169,56 +161,76 @@ pub point_step : (m s : ℕ) (ss : List ℕ) (out : List ℤ) (k : ℕ) (re im :
     → sets out k (numbers m (s ∷ ss)) ≡ sets (set (set out k re) (k + 1) im) (k + 2) (numbers m ss)
 point_step m s ss out k re im e f = rw (e, f) (simp towards_suc)
 
--- what is left to send and to write, of n groups from t₀ on
-pub record Left (m w : ℕ) (ds : List ℕ) (t₀ : Sender) (n : ℕ) (out₀ : List ℤ) (t : Sender) (out : List ℤ) (at k left : ℕ) : Type 0 where
+-- what is left to send and to write, of data bits from t₀ on
+pub record Left (m w : ℕ) (ds : List ℕ) (t₀ : Sender) (out₀ : List ℤ) (t : Sender) (out : List ℤ) (k : ℕ) (rest : List ℕ) : Type 0 where
   pub mode : t.mode ≡ m
-  pub bits_left : at + left * w ≤ length ds
-  pub room_left : k + 2 * left ≤ length out
+  pub of_bits : T (every is_bit rest)
+  pub room_left : 2 * k + 2 * (length rest / w) ≤ length out
   pub same_length : length out ≡ length out₀
-  pub sender : after_groups t (groups w left (drop at ds)) ≡ after_groups t₀ (groups w n ds)
-  pub written : sets out k (numbers m (sent_states t (groups w left (drop at ds)))) ≡ sets out₀ 0 (numbers m (sent_states t₀ (groups w n ds)))
+  pub sender : after_groups t (grouped w rest) ≡ after_groups t₀ (grouped w ds)
+  pub written : sets out (2 * k) (numbers m (sent_states t (grouped w rest))) ≡ sets out₀ 0 (numbers m (sent_states t₀ (grouped w ds)))
 
-pub left_all : (m w : ℕ) (ds : List ℕ) (t₀ t : Sender) (n : ℕ) (out : List ℤ) → t ≡ t₀ → t.mode ≡ m → n * w ≤ length ds → 2 * n ≤ length out
-    → Left m w ds t₀ n out t out 0 0 n
-left_all m w ds t₀ t n out q e h k =
+pub left_all : (m w : ℕ) (ds : List ℕ) (t₀ t : Sender) (out : List ℤ) → t ≡ t₀ → t.mode ≡ m → T (every is_bit ds) → 2 * (length ds / w) ≤ length out
+    → Left m w ds t₀ out t out 0 ds
+left_all m w ds t₀ t out q e b h =
     record {
       mode = e;
-      bits_left = omega arith;
+      of_bits = b;
       room_left = omega arith;
       same_length = refl;
-      sender = ap (λ (x : Sender). after_groups x (groups w n ds)) q;
-      written = ap (λ (x : Sender). sets out 0 (numbers m (sent_states x (groups w n ds)))) q;
+      sender = ap (λ (x : Sender). after_groups x (grouped w ds)) q;
+      written = ap (λ (x : Sender). sets out 0 (numbers m (sent_states x (grouped w ds)))) q;
     }
 
-module _ (m w : ℕ) (ds : List ℕ) (t₀ : Sender) (n : ℕ) (out₀ : List ℤ) (t : Sender) (out : List ℤ) (at k left : ℕ) (i : Left m w ds t₀ n out₀ t out at k left) where
-  pub group_there : 0 < left → at + w ≤ length ds
-  group_there h = let b = i.bits_left in omega (arith, less left w h)
+module _ (m w : ℕ) (ds : List ℕ) (t₀ : Sender) (out₀ : List ℤ) (t : Sender) (out : List ℤ) (k : ℕ) (rest : List ℕ) (i : Left m w ds t₀ out₀ t out k rest) where
+  -- the next group and those behind it
+  module _ (g more : List ℕ) (h : 0 < w) (e : rest ≡ g ++ more) (l : length g ≡ w) where
+    -- its two numbers have room
+    pub group_there : 2 * k + 2 + 2 * (length more / w) ≤ length out
+    group_there =
+        let n : length rest / w ≡ suc (length more / w) =
+        ap (λ (n : ℕ). n / w) (ap length e ∙ length-append g more ∙ ap (λ (n : ℕ). n + length more) l) ∙ less w (length more) h in
+        omega (arith, i.room_left)
 
-  pub left_less : (u : Sender) (v : ℕ) (re im : ℤ) → 0 < left → T (every is_bit ds) → w ≡ width m → v ≡ value (take (at + w - at) (drop at ds))
-      → u ≡ after_group t (bits (width t.mode) v) → re ≡ (sent_point m u.reference).re → im ≡ (sent_point m u.reference).im
-      → Left m w ds t₀ n out₀ u (set (set out k re) (k + 1) im) (at + w) (k + 2) (left - 1)
-  left_less u v re im h b ew ev eu er ei =
-      let g : List ℕ = take (at + w - at) (drop at ds) in
-      let z : bits (width t.mode) v ≡ g = ap (λ (x : ℕ). bits x v) (ap width i.mode ∙ sym ew) ∙ whole-bits w at v ds b (group_there h) ev in
-      let y : u ≡ after_group t g = eu ∙ ap (after_group t) z in
-      let rest : List (List ℕ) = groups w (left - 1) (drop (at + w) ds) in
-      let s = groups-step w at left ds h in
-      record {
-        mode = ap (λ (x : Sender). x.mode) y ∙ group_mode t g ∙ i.mode;
-        bits_left = let q = i.bits_left in omega (arith, less left w h);
-        room_left = simp length-set (let q = i.room_left in omega arith);
-        same_length = simp length-set i.same_length;
-        sender = ap (λ (x : Sender). after_groups x rest) y ∙ sym (ap (after_groups t) s) ∙ i.sender;
-        written = sym (point_step m u.reference (sent_states u rest) out k re im er ei)
-            ∙ ap (λ (x : Sender). sets out k (numbers m (x.reference ∷ sent_states x rest))) y
-            ∙ sym (ap (λ (gs : List (List ℕ)). sets out k (numbers m (sent_states t gs))) s) ∙ i.written;
-      }
+    -- a group of a writer has two to four bytes, and they are bits
+    pub group-bits : 2 ≤ w → w ≤ 4 → (2 ≤ length g) × (length g ≤ 4) × T (every is_bit g)
+    group-bits a b = (omega arith, omega arith, subst (λ (s : List ℕ). T (every is_bit s)) (ap (take w) e ∙ take_at g more w l) (every_take is_bit w rest i.of_bits))
 
-  none_left : left ≡ 0 → groups w left (drop at ds) ≡ []
-  none_left e = ap (λ (x : ℕ). groups w x (drop at ds)) e
+    pub left_less : (u : Sender) (v : ℕ) (re im : ℤ) → w ≡ width m → v ≡ value g
+        → u ≡ after_group t (bits (width t.mode) v) → re ≡ (sent_point m u.reference).re → im ≡ (sent_point m u.reference).im
+        → Left m w ds t₀ out₀ u (set (set out (2 * k) re) (2 * k + 1) im) (k + 1) more
+    left_less u v re im ew ev eu er ei =
+        let gb : T (every is_bit g) = subst (λ (s : List ℕ). T (every is_bit s)) (ap (take w) e ∙ take_at g more w l) (every_take is_bit w rest i.of_bits) in
+        let z : bits (width t.mode) v ≡ g = ap (λ (x : ℕ). bits x v) (ap width i.mode ∙ sym ew) ∙ whole-bits w v g gb l ev in
+        let y : u ≡ after_group t g = eu ∙ ap (after_group t) z in
+        let after : List (List ℕ) = grouped w more in
+        let s = groups-step w rest g more h e l in
+        let there = group_there in
+        let j : 2 * (k + 1) ≡ 2 * k + 2 = omega arith in
+        record {
+          mode = ap (λ (x : Sender). x.mode) y ∙ group_mode t g ∙ i.mode;
+          of_bits = subst (λ (s : List ℕ). T (every is_bit s)) (ap (drop w) e ∙ drop_at g more w l) (every_drop is_bit w rest i.of_bits);
+          room_left = simp length-set (omega arith);
+          same_length = simp length-set i.same_length;
+          sender = ap (λ (x : Sender). after_groups x after) y ∙ sym (ap (after_groups t) s) ∙ i.sender;
+          written = ap (λ (n : ℕ). sets (set (set out (2 * k) re) (2 * k + 1) im) n (numbers m (sent_states u after))) j
+              ∙ sym (point_step m u.reference (sent_states u after) out (2 * k) re im er ei)
+              ∙ ap (λ (x : Sender). sets out (2 * k) (numbers m (x.reference ∷ sent_states x after))) y
+              ∙ sym (ap (λ (gs : List (List ℕ)). sets out (2 * k) (numbers m (sent_states t gs))) s) ∙ i.written;
+        }
 
-  pub sent_all : left ≡ 0 → t ≡ after_groups t₀ (groups w n ds)
-  sent_all e = sym (ap (after_groups t) (none_left e)) ∙ i.sender
+    -- the same, where the numbers of the point are said otherwise
+    pub left_next : (u : Sender) (v j n : ℕ) (re im : ℤ) → j ≡ k → n ≡ k + 1 → w ≡ width m → v ≡ value g
+        → u ≡ after_group t (bits (width t.mode) v) → re ≡ (sent_point m u.reference).re → im ≡ (sent_point m u.reference).im
+        → Left m w ds t₀ out₀ u (set (set out (2 * j) re) (2 * j + 1) im) n more
+    left_next u v j n re im ej en ew ev eu er ei = rw (ej, en) (left_less u v re im ew ev eu er ei)
 
-  pub wrote_all : left ≡ 0 → out ≡ sets out₀ 0 (numbers m (sent_states t₀ (groups w n ds)))
-  wrote_all e = sym (ap (λ (gs : List (List ℕ)). sets out k (numbers m (sent_states t gs))) (none_left e)) ∙ i.written
+  none_left : (n : ℕ) → length rest < n → n ≡ w → grouped w rest ≡ []
+  unfolding grouped
+  none_left n h e = ap (λ (k : ℕ). groups w k rest) (div-eq_of_lt (let z : length rest < w = omega arith in z))
+
+  pub sent_all : (n : ℕ) → length rest < n → n ≡ w → t ≡ after_groups t₀ (grouped w ds)
+  sent_all n h e = sym (ap (after_groups t) (none_left n h e)) ∙ i.sender
+
+  pub wrote_all : (n : ℕ) → length rest < n → n ≡ w → out ≡ sets out₀ 0 (numbers m (sent_states t₀ (grouped w ds)))
+  wrote_all n h e = sym (ap (λ (gs : List (List ℕ)). sets out (2 * k) (numbers m (sent_states t gs))) (none_left n h e)) ∙ i.written

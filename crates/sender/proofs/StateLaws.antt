@@ -11,6 +11,7 @@ use lib.Dec.{T, eqb, leb, eqb→eq, leb→le, ltb→lt}
 use lib.ListN.{length, drop, length-take, length-drop}
 use Rattle.line.specs.Table.{every}
 use Rattle.line.specs.Mode.{is_mode, is_role, is_state, width, guarded, capacity}
+use Rattle.line.specs.Refusal.{answered}
 use Rattle.line.proofs.TableLaws.{and_left, and_right, and_intro, every_take, every_drop}
 use Rattle.scrambler.specs.Bits.{is_bit}
 use Rattle.scrambler.specs.Group.{guard_mode}
@@ -20,7 +21,7 @@ use Rattle.training.specs.declared.Coder.{Coder}
 use Rattle.training.proofs.CoderLaws.{Ready as CanSend, ready_coding}
 use Rattle.training.proofs.TrainingLaws.{ready_trained}
 use Rattle.sender.specs.declared.Sender.{Sender}
-use Rattle.sender.specs.Sender.{coder_of, sender_of, fields_ok, state_refusal, groups, grouped, after_group, after_groups, send_refusal, answered, send_answer}
+use Rattle.sender.specs.Sender.{coder_of, sender_of, fields_ok, state_refusal, groups, grouped, after_group, after_groups, send_refusal, send_answer}
 use Rattle.sender.specs.Open.{open_refusal, opened, open_answer}
 use Rattle.sender.specs.Calls.{Passes, OpenedPasses, SentPasses}
 use Rattle.sender.proofs.RefusalLaws.{StateOk, state_ok, state_accepted, DataOk, send_ok}

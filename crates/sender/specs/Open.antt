@@ -1,13 +1,13 @@
 -- Document 01, "Sender": "Opening writes training, placed as data points are, and hands back a state"; "Refusals" 1, 2, 3 and 7 of it.
-use Rattle.std.specs.Prelude.{ℕ, Bool, ◌&&◌, List, leb, ℤ, length}
+use Rattle.std.specs.Prelude.{ℕ, Bool, ◌&&◌, List, Result, leb, ℤ, length}
 use Rattle.std.proofs.lemmas.List.Edits.{sets}
 use Rattle.line.specs.Mode.{by_mode}
-use Rattle.line.specs.Refusal.{need, or_next, accepted, mode_refusal}
+use Rattle.line.specs.declared.refusal.Refusal.{Refusal}
+use Rattle.line.specs.Refusal.{answered, need, or_next, accepted, mode_refusal}
 use Rattle.training.specs.Coder.{numbers}
 use Rattle.training.specs.Training.{train, start, intervals, trained, trained_states}
 use Rattle.sender.specs.declared.Sender.{Sender}
-use Rattle.sender.specs.declared.Sent.{Sent}
-use Rattle.sender.specs.Sender.{sender_of, has_room, answered}
+use Rattle.sender.specs.Sender.{sender_of, has_room}
 
 -- number 3: "training length not 0 or 1 (modes 1 and 2), not 1280 to 8192 (3 and 4)"; modes 5 and 6 as 1 and 2
 unfoldable pub length_ok : ℕ → ℕ → Bool
@@ -28,7 +28,7 @@ opened m role n = sender_of m role (trained (train m role n) 0 (intervals m n) (
 unfoldable pub training_numbers : ℕ → ℕ → ℕ → List ℤ
 training_numbers m role n = numbers m (trained_states (train m role n) 0 (intervals m n) (start m))
 
-unfoldable pub open_answer : ℕ → ℕ → ℕ → ℕ → ℕ → Sent
+unfoldable pub open_answer : ℕ → ℕ → ℕ → ℕ → ℕ → Result Sender Refusal
 open_answer m role n lent offset = answered (open_refusal m role n lent offset) (opened m role n)
 
 unfoldable pub open_numbers : ℕ → ℕ → ℕ → List ℤ → ℕ → List ℤ

@@ -1,16 +1,15 @@
 -- Document 01, "Sender": sending data bits; "Refusals" 1, 2, 4, 5, 6 and 7 of a sending call.
-use Rattle.std.specs.Prelude.{ℕ, zero, suc, ◌+◌, ◌*◌, ◌/◌, ◌%◌, ◌≡◌, Bool, ◌&&◌, List, [], ◌∷◌, leb, eqb, ℤ, length, take, drop}
+use Rattle.std.specs.Prelude.{ℕ, zero, suc, ◌+◌, ◌*◌, ◌/◌, ◌%◌, ◌≡◌, Bool, ◌&&◌, List, [], ◌∷◌, Result, Ok, Err, leb, eqb, ℤ, length, take, drop}
 use Rattle.std.proofs.lemmas.List.Edits.{sets}
 use Rattle.line.specs.Table.{every}
 use Rattle.line.specs.Mode.{is_state, width, capacity}
-use Rattle.line.specs.Refusal.{need, or_next, accepted, mode_refusal}
+use Rattle.line.specs.declared.refusal.Refusal.{Refusal}
+use Rattle.line.specs.Refusal.{numbered, answered, need, or_next, accepted, mode_refusal}
 use Rattle.scrambler.specs.Bits.{is_bit}
 use Rattle.scrambler.specs.Register.{register_ok}
 use Rattle.training.specs.declared.Coder.{Coder}
 use Rattle.training.specs.Coder.{coder, coding, numbers}
 use Rattle.sender.specs.declared.Sender.{Sender}
-use Rattle.sender.specs.declared.Sent.{Sent}
-use Rattle.sender.specs.declared.Sent.TheVariants.{Refused, Ready}
 
 -- what sending changes of a sender
 abbrev pub coder_of : Sender → Coder
@@ -70,29 +69,20 @@ bit_numbers s ds = numbers s.mode (sent_states s (grouped (width s.mode) ds))
 
 -- AN ANSWER, of opening and of sending
 
--- "Where an answer is an enum, a definition gives this paper's number and values for each of the enum's cases": the refusal's number,
--- 0 for none
-abbrev pub number_of : Sent → ℕ
-number_of (Refused n) = n
-number_of (Ready t) = 0
-
 -- "Each call gets what the last one handed back or left, after a refusal what that one had got"
-abbrev pub handed_on : Sent → Sender → Sender
-handed_on (Refused n) s = s
-handed_on (Ready t) s = t
+abbrev pub handed_on : Result Sender Refusal → Sender → Sender
+handed_on (Err e) s = s
+handed_on (Ok t) s = t
 
 -- an answer with the number n, or with the state t
-pub record Told (n : ℕ) (t : Sender) (r : Sent) : Type 0 where
-  pub number_is : number_of r ≡ n
+pub record Told (n : ℕ) (t : Sender) (r : Result Sender Refusal) : Type 0 where
+  pub number_is : numbered r ≡ n
   pub state_is : (s : Sender) → handed_on r s ≡ accepted n t s
-
--- the value itself: "A refusal gives back its number alone"
-abbrev pub answered : ℕ → Sender → Sent
-answered n t = accepted n (Ready t) (Refused n)
 
 -- A SENDING CALL
 
-unfoldable pub send_answer : Sender → List ℕ → ℕ → ℕ → Sent
+-- the value itself: "A refusal gives back its number alone"
+unfoldable pub send_answer : Sender → List ℕ → ℕ → ℕ → Result Sender Refusal
 send_answer s ds lent offset = answered (send_refusal s ds lent offset) (after_bits s ds)
 
 -- the lent numbers at exit: the points "from a given offset on, all others unchanged"

@@ -5,12 +5,15 @@ ghost use Rattle.std.specs.Prelude.{◌≡◌, ◌*◌, ◌/◌, ◌≤◌, ◌<
 ghost use Rattle.std.proofs.lemmas.List.Edits.{sets};
 ghost use Rattle.line.specs.Table.{every};
 ghost use Rattle.line.specs.Mode.{guarded, width, capacity};
+ghost use Rattle.line.specs.Refusal.{numbered};
 ghost use Rattle.scrambler.specs.Bits.{is_bit, bits, value};
 ghost use Rattle.scrambler.specs.Register.{register};
 ghost use Rattle.scrambler.specs.Group.{guard_mode};
 ghost use Rattle.training.specs.Training.{train, start, intervals, trained};
 ghost use Rattle.sender.specs.Sender.{fields_ok, state_refusal, has_room, data_refusal, send_refusal, after_group, after_bits, bit_numbers, send_answer, send_numbers, Told};
 ghost use Rattle.sender.specs.Open.{length_ok, open_refusal, opened, training_numbers, open_answer, open_numbers};
+
+use line::Refusal;
 
 // What a sending call needs and hands on.
 #[derive(Clone, Copy)]
@@ -19,13 +22,6 @@ pub struct Sender {
     pub role: u8,
     pub reference: u8,
     pub line: scrambler::Register,
-}
-
-// A refusal's number alone, or the next state.
-#[derive(Clone, Copy)]
-pub enum Sent {
-    Refused(u8),
-    Ready(Sender),
 }
 
 // What number 4 asks: the reference is a state of the mode, and the register is full with no bits beyond it.
@@ -37,14 +33,13 @@ fn fields_ok(s: Sender) -> bool
     line::state_ok(s.mode, s.reference) & (full & scrambler::register_ok(s.mode, register))
 }
 
-// Numbers 1, 2 and 4, or 0.
-fn state_refusal(s: Sender) -> u8
-    ensures { result ≡ state_refusal s }
+// What is wrong with a handed-in state.
+#[tactic(auto, unfolding(crate::specs::Sender::state_refusal))]
+fn state_fault(s: Sender) -> Result<(), Refusal>
+    ensures { numbered result ≡ state_refusal s }
 {
-    line::or_next(
-        line::mode_fault(s.mode, s.role),
-        line::need(fields_ok(s), 4, 0),
-    )
+    line::mode_fault(s.mode, s.role)?;
+    line::need(fields_ok(s), Refusal::State)
 }
 
 // Whether the points fit from the offset on.
@@ -57,27 +52,28 @@ fn has_room(points: usize, len: usize, offset: usize) -> bool
     points <= (len - offset) / 2
 }
 
-// Numbers 5, 6 and 7, or 0.
-fn data_refusal(mode: u8, input: &[u8], len: usize, offset: usize) -> u8
-    ensures { result ≡ data_refusal mode input.now len offset }
+// What is wrong with the data bits and the lent numbers.
+#[tactic(auto, unfolding(crate::specs::Sender::data_refusal))]
+fn data_fault(mode: u8, input: &[u8], len: usize, offset: usize) -> Result<(), Refusal>
+    ensures { numbered result ≡ data_refusal mode input.now len offset }
 {
     let w = line::width_of(mode) as usize;
-    let room = line::need(has_room(input.len() / w, len, offset), 7, 0);
-    line::need(
-        bits::are_bits(input),
-        5,
-        line::need(input.len() % w == 0, 6, room),
-    )
+    line::need(bits::are_bits(input), Refusal::Bit)?;
+    line::need(input.len() % w == 0, Refusal::BitCount)?;
+    line::need(has_room(input.len() / w, len, offset), Refusal::Lent)
 }
 
-// The lowest number that applies to a sending call, or 0.
-fn send_refusal(s: Sender, input: &[u8], len: usize, offset: usize) -> u8
-    ensures { result ≡ send_refusal s input.now len offset }
+// What is wrong with a sending call.
+#[tactic(auto, unfolding(crate::specs::Sender::send_refusal))]
+fn send_fault(s: Sender, input: &[u8], len: usize, offset: usize) -> Result<(), Refusal>
+    ensures { numbered result ≡ send_refusal s input.now len offset }
 {
-    line::or_next(state_refusal(s), data_refusal(s.mode, input, len, offset))
+    state_fault(s)?;
+    data_fault(s.mode, input, len, offset)
 }
 
-// The bits of a group as a number, the first highest.
+// The bits of a group as a number, the first highest. A loop over them took up to twice as long for a point (measured in a copy of the
+// writer in Rust).
 fn group_value(group: &[u8]) -> u8
     requires { (2 ≤ size group.now) × (size group.now ≤ 4) × T (every is_bit group.now) }
     ensures { result ≡ value group.now }
@@ -93,7 +89,8 @@ fn group_value(group: &[u8]) -> u8
     2 * three + group[3]
 }
 
-// A register of so many line bits, with nothing counted.
+// A register of so many line bits, with nothing counted. Training begins with one of a mode's own bits; here the count stands in the state
+// already, and the loop asks nothing of the mode for it.
 fn full_register(held: u8, bits: u32) -> scrambler::Register
     ensures { result ≡ register bits held 0 }
 {
@@ -116,24 +113,15 @@ fn write_points(s: Sender, input: &[u8], out: &mut [i16]) -> Sender
     let points = line::constellation(mode);
     let mut reference = s.reference;
     let mut bits = s.line.bits;
-    let mut at = 0;
-    let mut k = 0;
-    let mut left = input.len() / w;
-    while left > 0 {
-        let e = at + w;
+    for (k, group) in input.chunks_exact(w).enumerate() {
         let h = full_register(s.line.held.0, bits);
-        let g = scrambler::scramble_plain(mode, s.role, h, group_value(&input[at..e]));
+        let g = scrambler::scramble_plain(mode, s.role, h, group_value(group));
         reference = coding::coded_in(mode, reference, g.line);
         bits = g.next.bits;
         let state = (reference as usize) % 16;
         let p = points[state];
-        let re = p.re;
-        let im = p.im;
-        out[k] = re;
-        out[k + 1] = im;
-        at = e;
-        k += 2;
-        left -= 1;
+        out[2 * k] = p.re;
+        out[2 * k + 1] = p.im;
     }
     let line = full_register(s.line.held.0, bits);
     Sender {
@@ -171,41 +159,29 @@ fn write_counted(s: Sender, input: &[u8], out: &mut [i16]) -> Sender
     let w = line::width_of(mode) as usize;
     let points = line::constellation(mode);
     let mut t = s;
-    let mut at = 0;
-    let mut k = 0;
-    let mut left = input.len() / w;
-    while left > 0 {
-        let e = at + w;
-        t = send_counted(t, group_value(&input[at..e]));
+    for (k, group) in input.chunks_exact(w).enumerate() {
+        t = send_counted(t, group_value(group));
         let state = (t.reference as usize) % 16;
         let point = points[state];
-        let re = point.re;
-        let im = point.im;
-        out[k] = re;
-        out[k + 1] = im;
-        at = e;
-        k += 2;
-        left -= 1;
+        out[2 * k] = point.re;
+        out[2 * k + 1] = point.im;
     }
     t
 }
 
 // Sends data bits, one in a byte: their points stand in `out` from `offset` on.
-pub fn send(s: Sender, input: &[u8], out: &mut [i16], offset: usize) -> Sent
+pub fn send(s: Sender, input: &[u8], out: &mut [i16], offset: usize) -> Result<Sender, Refusal>
     ensures value { result ≡ send_answer s input.now (size out.old) offset }
     ensures out_after { out.new ≡ send_numbers s input.now out.old offset }
     ensures told { Told (send_refusal s input.now (size out.old) offset) (after_bits s input.now) result }
 {
-    let n = send_refusal(s, input, out.len(), offset);
-    if n != 0 {
-        return Sent::Refused(n);
-    }
+    send_fault(s, input, out.len(), offset)?;
     if line::has_guard(s.mode) {
         let t = write_counted(s, input, &mut out[offset..]);
-        return Sent::Ready(t);
+        return Ok(t);
     }
     let t = write_points(s, input, &mut out[offset..]);
-    Sent::Ready(t)
+    Ok(t)
 }
 
 // What number 3 asks.
@@ -219,19 +195,21 @@ fn length_ok(mode: u8, length: u32) -> bool
     }
 }
 
-// The lowest number that applies to opening, or 0.
-pub fn open_refusal(mode: u8, role: u8, length: u32, len: usize, offset: usize) -> u8
-    ensures { result ≡ open_refusal mode role length len offset }
+// What is wrong with a call that opens a sender.
+#[tactic(auto, unfolding(crate::specs::Open::open_refusal))]
+pub fn open_refusal(
+    mode: u8,
+    role: u8,
+    length: u32,
+    len: usize,
+    offset: usize,
+) -> Result<(), Refusal>
+    ensures { numbered result ≡ open_refusal mode role length len offset }
 {
-    let room = line::need(
-        has_room(training::interval_count(mode, length), len, offset),
-        7,
-        0,
-    );
-    line::or_next(
-        line::mode_fault(mode, role),
-        line::need(length_ok(mode, length), 3, room),
-    )
+    line::mode_fault(mode, role)?;
+    line::need(length_ok(mode, length), Refusal::TrainingLength)?;
+    let points = training::interval_count(mode, length);
+    line::need(has_room(points, len, offset), Refusal::Lent)
 }
 
 // The point writer of training, from the front of `out`.
@@ -244,33 +222,32 @@ fn write_training(mode: u8, role: u8, length: u32, out: &mut [i16]) -> training:
     let points = line::constellation(mode);
     let n = training::interval_count(mode, length);
     let mut c = training::training_start(mode);
-    let mut i = 0;
-    while i < n {
+    for i in 0..n {
         c = training::train_interval(mode, role, length, i, c, &t);
         let state = (c.reference as usize) % 16;
         let point = points[state];
-        let re = point.re;
-        let im = point.im;
-        out[2 * i] = re;
-        out[2 * i + 1] = im;
-        i += 1;
+        out[2 * i] = point.re;
+        out[2 * i + 1] = point.im;
     }
     c
 }
 
 // Opens a sender: its training stands in `out` from `offset` on.
-pub fn open(mode: u8, role: u8, length: u32, out: &mut [i16], offset: usize) -> Sent
+pub fn open(
+    mode: u8,
+    role: u8,
+    length: u32,
+    out: &mut [i16],
+    offset: usize,
+) -> Result<Sender, Refusal>
     ensures value { result ≡ open_answer mode role length (size out.old) offset }
     ensures out_after { out.new ≡ open_numbers mode role length out.old offset }
     ensures told { Told (open_refusal mode role length (size out.old) offset) (opened mode role length) result }
 {
-    let n = open_refusal(mode, role, length, out.len(), offset);
-    if n != 0 {
-        return Sent::Refused(n);
-    }
+    open_refusal(mode, role, length, out.len(), offset)?;
     let c = write_training(mode, role, length, &mut out[offset..]);
     let line = c.line;
-    Sent::Ready(Sender {
+    Ok(Sender {
         mode,
         role,
         reference: c.reference,

@@ -30,8 +30,8 @@ use Rattle.scrambler.specs.Group.{plain_of, unsettled_in, descrambled, marked}
 use Rattle.scrambler.proofs.BitLaws.{length-bits, value-bits, bits-same}
 use Rattle.scrambler.proofs.RegisterLaws.{full_push, full_pushes}
 use Rattle.scrambler.proofs.GroupLaws.{length-descramble, group_read, descrambled_small}
-use Rattle.receiver.specs.declared.Reference.{Reference}
-use Rattle.receiver.specs.declared.Reference.TheVariants.{Nothing as none, State as some}
+use Rattle.receiver.specs.Reference.{Reference}
+use Rattle.std.specs.Prelude.{None as none, Some as some}
 use Rattle.receiver.specs.declared.Receiver.{Receiver}
 use Rattle.receiver.specs.Receiver.{point, Answer, refused, reference, decoded, lost, refusal, has_room, state_refusal, line_bits, state_answer, point_answer, event_answer, answer, state_line, state_next, point_next, event_next, next}
 use Rattle.receiver.specs.Calls.{EachAccepted, answers, data_of, row}

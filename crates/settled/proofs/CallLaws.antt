@@ -10,14 +10,15 @@ use lib.ListN.{length, get_or, take, drop}
 use lib.Seq.{sets}
 use Rattle.line.specs.Table.{every}
 use Rattle.line.specs.Mode.{is_mode, width}
-use Rattle.line.specs.Refusal.{need, accepted}
+use Rattle.std.specs.Prelude.{Result, Ok, Err}
+use Rattle.line.specs.declared.refusal.Refusal.{Refusal}
+use Rattle.line.specs.declared.refusal.Refusal.TheVariants.{Mode, Lent}
+use Rattle.line.specs.Refusal.{number, named, answered, need, accepted}
 use Rattle.line.proofs.ByMode.{width_range}
-use Rattle.line.proofs.RefusalLaws.{need-zero}
+use Rattle.line.proofs.RefusalLaws.{need-zero, answer_given, answer_refused as refused_as, Listed, listed_need}
 use Rattle.line.proofs.Tests.{and_split, and_join}
 use Rattle.scrambler.specs.Scramble.{Datum}
 use Rattle.settled.specs.declared.Run.{Run}
-use Rattle.settled.specs.declared.Taken.{Taken}
-use Rattle.settled.specs.declared.Taken.TheVariants.{Refused, Found}
 use Rattle.settled.specs.Run.{data_of_bytes, before, following, run_points, run_bits, run_refusal, run_of, run_answer, run_bytes, Told}
 use Rattle.settled.specs.Points.{at_most, points_bits}
 use Rattle.settled.proofs.ByteLaws.{left}
@@ -32,30 +33,30 @@ module _ (m : ℕ) (ls ps : List ℕ) (lent : ℕ) where
   abbrev ds : List (List Datum)
   ds = data_of_bytes (width m) ls ps
 
-  refused_by_lem : (n : ℕ) → run_refusal m ls ps lent ≡ suc n → Refused (suc n) ≡ run_answer m ls ps lent
+  refused_by_lem : (e : Refusal) → run_refusal m ls ps lent ≡ number e → Err e ≡ run_answer m ls ps lent
   unfolding run_answer
-  refused_by_lem n e = sym (ap (λ (k : ℕ). accepted k (Found (run_of ds)) (Refused k)) e)
+  refused_by_lem e p = refused_as e _ (run_of ds) (sym p)
 
-  pub no_mode : (b : Bool) → b ≡ is_mode m → not b ≡ true → Refused 1 ≡ run_answer m ls ps lent
-  no_mode b q t = refused_by_lem 0 (unfold run_refusal in ap (λ (c : Bool). need c 1 (need (eqb (length ls) (length ps) && leb (length (run_bits ds)) lent) 7 0)) (sym q ∙ not-true b t))
+  pub no_mode : (b : Bool) → b ≡ is_mode m → not b ≡ true → Err Mode ≡ run_answer m ls ps lent
+  no_mode b q t = refused_by_lem Mode (unfold run_refusal in ap (λ (c : Bool). need c 1 (need (eqb (length ls) (length ps) && leb (length (run_bits ds)) lent) 7 0)) (sym q ∙ not-true b t))
 
   module _ (b : Bool) (q : b ≡ is_mode m) (t : not b ≡ false) where
     second : run_refusal m ls ps lent ≡ need (eqb (length ls) (length ps) && leb (length (run_bits ds)) lent) 7 0
     unfolding run_refusal
     second = ap (λ (c : Bool). need c 1 (need (eqb (length ls) (length ps) && leb (length (run_bits ds)) lent) 7 0)) (sym q ∙ not-false b t)
 
-    too_few : (eqb (length ls) (length ps) && leb (length (run_bits ds)) lent) ≡ false → Refused 7 ≡ run_answer m ls ps lent
-    too_few e = refused_by_lem 6 (second ∙ ap (λ (c : Bool). need c 7 0) e)
+    too_few : (eqb (length ls) (length ps) && leb (length (run_bits ds)) lent) ≡ false → Err Lent ≡ run_answer m ls ps lent
+    too_few e = refused_by_lem Lent (second ∙ ap (λ (c : Bool). need c 7 0) e)
 
-    pub no_partner : (length ls ≡ length ps → ⊥) → Refused 7 ≡ run_answer m ls ps lent
+    pub no_partner : (length ls ≡ length ps → ⊥) → Err Lent ≡ run_answer m ls ps lent
     no_partner f = too_few (ap (λ (c : Bool). c && leb (length (run_bits ds)) lent) (ne_eqb (length ls) (length ps) f))
 
     module _ (e : length ls ≡ length ps) where
-      found : (r : Run) → r ≡ run_of ds → length (run_bits ds) ≤ lent → Found r ≡ run_answer m ls ps lent
+      found : (r : Run) → r ≡ run_of ds → length (run_bits ds) ≤ lent → Ok r ≡ run_answer m ls ps lent
       unfolding run_answer
       found r x h =
-          ap Found x
-          ∙ sym (ap (λ (k : ℕ). accepted k (Found (run_of ds)) (Refused k)) (second ∙ ap (λ (c : Bool). need c 7 0) (and_join (eqb (length ls) (length ps)) (leb (length (run_bits ds)) lent) (eq-eqb (length ls) (length ps) e) (le-leb (length (run_bits ds)) lent h))))
+          ap Ok x
+          ∙ answer_given _ (run_of ds) (second ∙ ap (λ (c : Bool). need c 7 0) (and_join (eqb (length ls) (length ps)) (leb (length (run_bits ds)) lent) (eq-eqb (length ls) (length ps) e) (le-leb (length (run_bits ds)) lent h)))
 
       module _ (w first : ℕ) (x : w ≡ width m) (f : first ≡ before (data_of_bytes w ls ps)) where
         at_width : first ≡ before ds
@@ -65,7 +66,7 @@ module _ (m : ℕ) (ls ps : List ℕ) (lent : ℕ) where
         unfolding run_of
         run_as points bits u v = λ i. record { first = at_width i; points = u i; bits = v i }
 
-        pub no_run : first ≡ length ls → Found (record { first = first; points = 0; bits = 0 }) ≡ run_answer m ls ps lent
+        pub no_run : first ≡ length ls → Ok (record { first = first; points = 0; bits = 0 }) ≡ run_answer m ls ps lent
         no_run h =
             let a = at_width in
             let z = without_run (width m) ls ps (omega arith) in
@@ -98,13 +99,13 @@ module _ (m : ℕ) (ls ps : List ℕ) (lent : ℕ) where
                 ∙ sym (run_count (width m) ls ps (width_some m (width m) refl) e there).1
 
             pub run_found : (ok : Bool) → ok ≡ leb (w - get_or ps first 0 / 16 + (end - first - 1) * w) lent → ok ≡ true
-                → Found (record { first = first; points = end - first - 1 + 1; bits = w - get_or ps first 0 / 16 + (end - first - 1) * w }) ≡ run_answer m ls ps lent
+                → Ok (record { first = first; points = end - first - 1 + 1; bits = w - get_or ps first 0 / 16 + (end - first - 1) * w }) ≡ run_answer m ls ps lent
             run_found ok o z =
                 let a = more_is in
                 let n = (run_count (width m) ls ps (width_some m (width m) refl) e there).0 in
                 found _ (run_as _ _ (let i : end - first - 1 + 1 ≡ run_points ds = omega arith in i) count_is) (leb-true _ _ (ap (λ (k : ℕ). leb k lent) (sym count_is) ∙ sym o ∙ z))
 
-            pub run_refused : (ok : Bool) → ok ≡ leb (w - get_or ps first 0 / 16 + (end - first - 1) * w) lent → ok ≡ false → Refused 7 ≡ run_answer m ls ps lent
+            pub run_refused : (ok : Bool) → ok ≡ leb (w - get_or ps first 0 / 16 + (end - first - 1) * w) lent → ok ≡ false → Err Lent ≡ run_answer m ls ps lent
             run_refused ok o z = too_few (and_no (eqb (length ls) (length ps)) (ap (λ (k : ℕ). leb k lent) (sym count_is) ∙ sym o ∙ z))
               where
                 and_no : (a : Bool) {c : Bool} → c ≡ false → (a && c) ≡ false
@@ -113,29 +114,33 @@ module _ (m : ℕ) (ls ps : List ℕ) (lent : ℕ) where
 
 -- WHAT IS WRITTEN
 
-module _ (m : ℕ) (ls ps out : List ℕ) (t : Taken) (a : t ≡ run_answer m ls ps (length out)) where
+listed : (m : ℕ) (ls ps : List ℕ) (lent : ℕ) → Listed (run_refusal m ls ps lent)
+unfolding run_refusal named
+listed m ls ps lent = listed_need (is_mode m) 1 _ (λ h. refl) (listed_need _ 7 0 (λ h. refl) (λ h. absurd (h refl)))
+
+module _ (m : ℕ) (ls ps out : List ℕ) (t : Result Run Refusal) (a : t ≡ run_answer m ls ps (length out)) where
   abbrev all : List (List Datum)
   all = data_of_bytes (width m) ls ps
 
-  abbrev Answered : List ℕ → Taken → Type 0
+  abbrev Answered : List ℕ → Result Run Refusal → Type 0
   Answered o u = (u ≡ run_answer m ls ps (length out)) × ((o ≡ run_bytes m ls ps out) × Told m ls ps (length out) u)
 
-  pub answer_refused : (n : ℕ) → t ≡ Refused n → Answered out (Refused n)
+  pub answer_refused : (e : Refusal) → t ≡ Err e → Answered out (Err e)
   unfolding run_answer run_bytes
-  answer_refused n q =
-      let g = go (run_refusal m ls ps (length out)) (sym q ∙ a) in
+  answer_refused e q =
+      let g = go (run_refusal m ls ps (length out)) (listed m ls ps (length out)) (sym q ∙ a) in
       (sym q ∙ a, (g.0, record { number_is = g.1; run_is = g.2 }))
     where
-      go : (k : ℕ) → Refused n ≡ accepted k (Found (run_of all)) (Refused k) → (out ≡ accepted k (sets out 0 (run_bits all)) out) × (n ≡ k) × ([] ≡ accepted k (run_of all ∷ []) [])
-      go zero e = let z : ◌≡◌ {A = ℕ} 0 1 = cc in absurd (omega arith)
-      go (suc k) e = (refl, cc, refl)
+      go : (k : ℕ) → Listed k → Err e ≡ answered k (run_of all) → (out ≡ accepted k (sets out 0 (run_bits all)) out) × (number e ≡ k) × ([] ≡ accepted k (run_of all ∷ []) [])
+      go zero l p = let z : ◌≡◌ {A = ℕ} 0 1 = cc in absurd (omega arith)
+      go (suc k) l p = let is : e ≡ named (suc k) = cc in (refl, ap number is ∙ l (λ (z : suc k ≡ 0). omega arith), refl)
 
-  module _ (r : Run) (q : t ≡ Found r) where
+  module _ (r : Run) (q : t ≡ Ok r) where
     told : (run_refusal m ls ps (length out) ≡ 0) × (r ≡ run_of all)
     unfolding run_answer
     told = go (run_refusal m ls ps (length out)) (sym q ∙ a)
       where
-        go : (k : ℕ) → Found r ≡ accepted k (Found (run_of all)) (Refused k) → (k ≡ 0) × (r ≡ run_of all)
+        go : (k : ℕ) → Ok r ≡ answered k (run_of all) → (k ≡ 0) × (r ≡ run_of all)
         go zero e = (refl, cc)
         go (suc k) e = let z : ◌≡◌ {A = ℕ} 0 1 = cc in absurd (omega arith)
 
@@ -175,7 +180,7 @@ module _ (m : ℕ) (ls ps out : List ℕ) (t : Taken) (a : t ≡ run_answer m ls
       pub part_fits : length (points_bits w part) ≤ length out
       part_fits = rw bits_are enough
 
-      pub answer_found : (o : List ℕ) → o ≡ sets out 0 (points_bits w part) → Answered o (Found r)
+      pub answer_found : (o : List ℕ) → o ≡ sets out 0 (points_bits w part) → Answered o (Ok r)
       unfolding run_bytes
       answer_found o e =
           let z = told in

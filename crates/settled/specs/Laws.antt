@@ -1,6 +1,6 @@
 -- What is handed over: the statements, whose proofs are `any_bytes` of proofs/RunLaws, `written_bytes` of proofs/AnswerLaws and `worked`
 -- of proofs/Example.
-use Rattle.std.specs.Prelude.{ℕ, ◌+◌, ◌*◌, ◌<◌, ◌≡◌, ◌⊎◌, List, [], ◌∷◌, ◌++◌, map, length, take, drop, get_or, replicate}
+use Rattle.std.specs.Prelude.{ℕ, ◌+◌, ◌*◌, ◌<◌, ◌≡◌, ◌⊎◌, List, [], ◌∷◌, ◌++◌, Ok, Err, map, length, take, drop, get_or, replicate}
 use Rattle.line.specs.Table.{All}
 use Rattle.line.specs.Mode.{width}
 use Rattle.line.specs.declared.Point.{Point}
@@ -9,7 +9,7 @@ use Rattle.receiver.specs.declared.Receiver.{Receiver}
 use Rattle.receiver.specs.Receiver.{Answer, lost}
 use Rattle.receiver.specs.Calls.{data_of, row}
 use Rattle.bulk.specs.Block.{Given, points_of, answers_to, Parts, sizes, block_refusal, parts_after}
-use Rattle.settled.specs.declared.Taken.TheVariants.{Refused, Found}
+use Rattle.line.specs.declared.refusal.Refusal.TheVariants.{Lent}
 use Rattle.settled.specs.Run.{data_of_bytes, settled_ones, before, run_points, run_data, run_bits, run_answer, run_bytes}
 
 -- of any bytes: no point before the run has a settled data bit; each point of the run has its w data bits, so that none of them is a
@@ -49,6 +49,6 @@ WrittenBytes =
 -- worked bytes of mode 3: a reference, a point without a settled bit, one with its second bit settled, one with both, and the origin. What
 -- is handed over are three bits of two points, the first of them point 2, into five lent bytes.
 pub record Worked : Type 0 where
-  pub told : run_answer 3 (16 ∷ 1 ∷ 2 ∷ 3 ∷ 17 ∷ []) (0 ∷ 32 ∷ 17 ∷ 2 ∷ 0 ∷ []) 5 ≡ Found (record { first = 2; points = 2; bits = 3 })
+  pub told : run_answer 3 (16 ∷ 1 ∷ 2 ∷ 3 ∷ 17 ∷ []) (0 ∷ 32 ∷ 17 ∷ 2 ∷ 0 ∷ []) 5 ≡ Ok (record { first = 2; points = 2; bits = 3 })
   pub written : run_bytes 3 (16 ∷ 1 ∷ 2 ∷ 3 ∷ 17 ∷ []) (0 ∷ 32 ∷ 17 ∷ 2 ∷ 0 ∷ []) (9 ∷ 9 ∷ 9 ∷ 9 ∷ 9 ∷ []) ≡ 1 ∷ 1 ∷ 0 ∷ 9 ∷ 9 ∷ []
-  pub too_few : run_answer 3 (16 ∷ 1 ∷ 2 ∷ 3 ∷ 17 ∷ []) (0 ∷ 32 ∷ 17 ∷ 2 ∷ 0 ∷ []) 2 ≡ Refused 7
+  pub too_few : run_answer 3 (16 ∷ 1 ∷ 2 ∷ 3 ∷ 17 ∷ []) (0 ∷ 32 ∷ 17 ∷ 2 ∷ 0 ∷ []) 2 ≡ Err Lent

@@ -1,16 +1,15 @@
 -- Document 02, R-7: "takes settled data bits". From the bytes that `receive_points` wrote, the settled data bits of a run of points, one in
 -- a byte.
-use Rattle.std.specs.Prelude.{ℕ, suc, ◌/◌, ◌≡◌, Bool, ◌&&◌, cond, List, [], ◌∷◌, eqb, leb, ltb, length, take, drop}
+use Rattle.std.specs.Prelude.{ℕ, suc, ◌/◌, ◌≡◌, Bool, ◌&&◌, cond, List, [], ◌∷◌, Result, Ok, Err, eqb, leb, ltb, length, take, drop}
 use Rattle.std.proofs.lemmas.List.Edits.{sets}
 use Rattle.line.specs.Mode.{is_mode, width}
-use Rattle.line.specs.Refusal.{need, accepted}
+use Rattle.line.specs.declared.refusal.Refusal.{Refusal}
+use Rattle.line.specs.Refusal.{numbered, answered, need, accepted}
 use Rattle.scrambler.specs.Bits.{bits}
 use Rattle.scrambler.specs.Scramble.{Datum, unsettled, settled}
 use Rattle.scrambler.specs.Group.{marked}
 use Rattle.receiver.specs.Calls.{row}
 use Rattle.settled.specs.declared.Run.{Run}
-use Rattle.settled.specs.declared.Taken.{Taken}
-use Rattle.settled.specs.declared.Taken.TheVariants.{Refused, Found}
 
 -- THE DATA BITS THAT BYTES STAND FOR
 
@@ -78,23 +77,18 @@ unfoldable pub run_of : List (List Datum) → Run
 run_of ds = record { first = before ds; points = run_points ds; bits = length (run_bits ds) }
 
 -- what is answered, and the lent bytes after it
-unfoldable pub run_answer : ℕ → List ℕ → List ℕ → ℕ → Taken
-run_answer m line plain lent =
-    accepted (run_refusal m line plain lent) (Found (run_of (data_of_bytes (width m) line plain))) (Refused (run_refusal m line plain lent))
+unfoldable pub run_answer : ℕ → List ℕ → List ℕ → ℕ → Result Run Refusal
+run_answer m line plain lent = answered (run_refusal m line plain lent) (run_of (data_of_bytes (width m) line plain))
 
 unfoldable pub run_bytes : ℕ → List ℕ → List ℕ → List ℕ → List ℕ
 run_bytes m line plain out =
     accepted (run_refusal m line plain (length out)) (sets out 0 (run_bits (data_of_bytes (width m) line plain))) out
 
--- what each case of the answer says: a refusal's number, 0 for none; the run, if one is told
-abbrev pub number_of : Taken → ℕ
-number_of (Refused n) = n
-number_of (Found r) = 0
+-- what each case of the answer says beside its number: the run, if one is told
+abbrev pub runs_of : Result Run Refusal → List Run
+runs_of (Err e) = []
+runs_of (Ok r) = r ∷ []
 
-abbrev pub runs_of : Taken → List Run
-runs_of (Refused n) = []
-runs_of (Found r) = r ∷ []
-
-pub record Told (m : ℕ) (line plain : List ℕ) (lent : ℕ) (r : Taken) : Type 0 where
-  pub number_is : number_of r ≡ run_refusal m line plain lent
+pub record Told (m : ℕ) (line plain : List ℕ) (lent : ℕ) (r : Result Run Refusal) : Type 0 where
+  pub number_is : numbered r ≡ run_refusal m line plain lent
   pub run_is : runs_of r ≡ accepted (run_refusal m line plain lent) (run_of (data_of_bytes (width m) line plain) ∷ []) []

@@ -10,7 +10,7 @@ use lib.Dec.{eqb, ltb}
 use borrow.Author.Tests.{ltb-true, lt-ltb, eqb-true, eqb-false, eq-eqb, ne_eqb, not-true}
 use Rattle.line.specs.Table.{every, All}
 use Rattle.line.proofs.Tests.{by_test, and_split, and_join}
-use Rattle.store.specs.Chain.{walk, last_of, greatest, distinct, sum_over, gather}
+use Rattle.store.specs.Chain.{walk, last_of, greatest, distinct, ends, sum_over, gather}
 
 -- ---- facts about every element, as types
 abbrev pub NoDup : List ℕ → Type 0
@@ -149,11 +149,7 @@ pigeonhole (suc g) xs n a =
     )
 
 -- ---- the test that a loop makes: the chain ends within n steps, with every index below m
-abbrev pub ends : (ℕ → ℕ) → ℕ → ℕ → ℕ → Bool
-ends f m zero i = eqb i 0
-ends f m (suc n) i = cond (eqb i 0) true (ltb i m && ends f m n (f i))
-
-ends_run : (f : ℕ → ℕ) (m n i : ℕ) → ends f m n i ≡ true → (xs : List ℕ) × Run f i xs × All (λ x. x < m) xs × (length xs ≤ n)
+pub ends_run : (f : ℕ → ℕ) (m n i : ℕ) → ends f m n i ≡ true → (xs : List ℕ) × Run f i xs × All (λ x. x < m) xs × (length xs ≤ n)
 ends_run f m zero i e = ([], eqb-true i 0 e, tt, omega arith)
 ends_run f m (suc n) i e =
     by_test (eqb i 0)

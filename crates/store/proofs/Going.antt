@@ -9,11 +9,11 @@ use lib.ListN.{length}
 use borrow.Author.Tests.{ne_eqb, lt-ltb, le-ltb}
 use Rattle.store.specs.declared.Trail.{Trail}
 use Rattle.line.specs.Table.{every}
-use Rattle.store.specs.Chain.{walk, last_of, greatest, sum_over}
+use Rattle.store.specs.Chain.{walk, last_of, greatest, ends, sum_over}
 use Rattle.store.specs.Layout.{count, rec, next, record_ok, span_of}
 use Rattle.store.specs.Store.{chain, chain_ok, records_ok}
 use Rattle.store.specs.Walk.{Sized, Passed, Walked}
-use Rattle.store.proofs.Chains.{ends, sound_ends}
+use Rattle.store.proofs.Chains.{sound_ends}
 
 pub walk_step : (f : ℕ → ℕ) (m n i : ℕ) → m ≡ suc n → (i ≡ 0 → ⊥) → walk f m i ≡ i ∷ walk f n (f i)
 walk_step f m n zero e h = absurd (h refl)

@@ -7,3 +7,4 @@ pub mod Views
 pub mod Readings
 pub mod Spans
 pub mod Fines
+pub mod RecordRuns

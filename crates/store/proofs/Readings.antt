@@ -5,36 +5,36 @@ use mathlib.Core.List.{List, [], ◌∷◌, ◌++◌}
 use Prim.Native.Nat.{ℕ, zero, suc, ◌+◌, ◌*◌, ◌-◌, ◌≤◌, ◌<◌}
 use native.Mathlib.Nat.{sub-zero, add-zero}
 use native.Mathlib.Omega.{arith}
-use borrow.Author.Tests.{eq-eqb, ne_eqb, eqb-true, ltb-true, le-leb, lt-leb}
+use borrow.Author.Tests.{eq-eqb, ne_eqb, eqb-true, ltb-true, leb-false, le-leb, lt-leb}
 use lib.Dec.{ltb, leb}
 use lib.IntN.{ℤ, pos}
-use lib.ListN.{length, get_or, drop, length-append}
-use lib.Seq.{sets}
+use lib.ListN.{length, drop, length-append}
+use lib.Seq.{sets, length-sets}
 use mir.Facts.{to_z-of_z}
 use mir.Syntax.{w64}
 use mir.Val.{to_z, of_z}
 use Rattle.line.specs.Point.{at}
 use Rattle.octets.specs.Number.{i16, u32}
 use Rattle.line.proofs.Tests.{and_split}
-use Rattle.line.proofs.RefusalLaws.{left_done, left_kept, left_none, or_some}
+use Rattle.line.proofs.RefusalLaws.{some_number, left_kept, or_some}
 use Rattle.line.proofs.Sets.{sets_then}
-use Rattle.store.specs.Chain.{walk, gather}
+use Rattle.store.specs.Chain.{walk, ends, gather}
 use Rattle.store.specs.Layout.{Event, point, lost, count, rec, next, kind, held, points, events_of}
-use Rattle.line.specs.Refusal.{need, or_next}
+use Rattle.line.specs.Refusal.{number, need, or_next}
 use Rattle.store.specs.Store.{chain, events, refusal}
-use Rattle.store.specs.Reads.{numbers, read_number, read_count, read_result, number_of, counts_of, Gives}
-use Rattle.store.specs.declared.Readout.{Readout}
-use Rattle.store.specs.declared.Readout.TheVariants.{Refused, Events}
-use Rattle.store.specs.Walk.{Sized, Tells}
-use Rattle.store.specs.declared.Inspected.{Inspected}
-use Rattle.store.specs.declared.Inspected.TheVariants.{Refused as NotRead}
-use Rattle.store.proofs.Views.{told_refused}
-use Rattle.store.proofs.Chains.{ends, run_ends, run_short}
+use Rattle.store.specs.Reads.{numbers, read_number, read_count, read_result, Gives}
+use Rattle.std.specs.Prelude.{Ok, Err}
+use Rattle.line.specs.declared.refusal.Refusal.{Refusal}
+use Rattle.store.specs.Walk.{Sized}
+use Rattle.store.specs.Records.{records, events_in}
+use Rattle.store.proofs.Chains.{run_ends, run_short}
 use Rattle.store.proofs.Going.{walk_step, walk-zero, ends_step}
-use Rattle.store.proofs.PointRuns.{point_at_lem, drop-next}
 use Rattle.store.proofs.Sounds.{accepted_sound}
+use Rattle.store.proofs.Views.{need_unmet}
+use Rattle.store.proofs.RecordRuns.{records_long, records_events}
+use Rattle.store.proofs.PointRuns.{point_at_lem, drop-next}
 
--- ---- the chain
+-- ---- the chain, by its indexes
 -- what is left of the chain after k records, at index i
 abbrev pub ahead : List ℕ → ℕ → ℕ → List ℕ
 ahead s k i = walk (next s) (count s - k) i
@@ -164,114 +164,90 @@ pub of_lost : (r : List ℕ) → (kind r ≡ 1 → ⊥) → events_of r ≡ lost
 unfolding events_of
 of_lost r h = rw (ne_eqb (kind r) 1 h)
 
--- ---- the chain copied
-pub record Copying (s : List ℕ) (out₀ out : List ℤ) (offset p k i : ℕ) : Type 0 where
-  pub along : Along s k i
+-- ---- the chain copied, where some of its records are left
+pub record Copying (s : List ℕ) (out₀ out : List ℤ) (offset p : ℕ) (rest : List (List ℕ)) : Type 0 where
   pub long : length out ≡ length out₀
-  pub room : p + 3 * length (left s k i) ≤ length out₀
-  pub written : sets out p (numbers (left s k i)) ≡ sets out₀ offset (numbers (events s))
+  pub room : p + 3 * length (events_in rest) ≤ length out₀
+  pub written : sets out p (numbers (events_in rest)) ≡ sets out₀ offset (numbers (events s))
 
-pub copying_start : (s : List ℕ) (out : List ℤ) (offset i : ℕ) → refusal s ≡ 0 → offset + 3 * length (events s) ≤ length out → i ≡ next s 0 → Copying s out out offset offset 0 i
-copying_start s out offset i acc h e =
+pub copying_start : (s : List ℕ) (out : List ℤ) (offset : ℕ) (rest : List (List ℕ)) → offset + 3 * length (events s) ≤ length out → rest ≡ records s → Copying s out out offset offset rest
+copying_start s out offset rest h e =
+    let v : events_in rest ≡ events s = ap events_in e ∙ records_events s in
+    record { long = refl; room = omega (arith, ap length v, h); written = ap (λ (es : List Event). sets out offset (numbers es)) v }
+
+pub copying_room : (s : List ℕ) (out₀ out : List ℤ) (offset p : ℕ) (rest : List (List ℕ)) (r : List ℕ) (rest' : List (List ℕ)) → Copying s out₀ out offset p rest → rest ≡ r ∷ rest'
+    → p + 3 * length (events_of r) ≤ length out
+copying_room s out₀ out offset p rest r rest' g e =
+    omega (arith, g.room, g.long, ap (λ (rs : List (List ℕ)). length (events_in rs)) e, length-append (events_of r) (events_in rest'))
+
+pub copying_step : (s : List ℕ) (out₀ out out' : List ℤ) (offset p p' : ℕ) (rest : List (List ℕ)) (r : List ℕ) (rest' : List (List ℕ)) → Copying s out₀ out offset p rest → rest ≡ r ∷ rest'
+    → out' ≡ sets out p (numbers (events_of r)) → p' ≡ p + 3 * length (events_of r) → Copying s out₀ out' offset p' rest'
+copying_step s out₀ out out' offset p p' rest r rest' g e eo ep =
     record {
-      along = along_start s i acc e;
-      long = refl;
-      room = omega (arith, ap length (left-start s i e), h);
-      written = ap (λ (es : List Event). sets out offset (numbers es)) (left-start s i e);
+      long = ap length eo ∙ length-sets out p (numbers (events_of r)) ∙ g.long;
+      room = omega (arith, g.room, ep, ap (λ (rs : List (List ℕ)). length (events_in rs)) e, length-append (events_of r) (events_in rest'));
+      written = numbers-then out out' p p' (events_of r) (events_in rest') eo ep ∙ ap (λ (rs : List (List ℕ)). sets out p (numbers (events_in rs))) (sym e) ∙ g.written;
     }
 
-pub copying_room : (s : List ℕ) (out₀ out : List ℤ) (offset p k i : ℕ) → Copying s out₀ out offset p k i → (i ≡ 0 → ⊥) → p + 3 * length (events_of (rec s i)) ≤ length out
-copying_room s out₀ out offset p k i g nz =
-    let e = left_step s k i (next s i) g.along nz refl in
-    omega (arith, g.room, g.long, ap length e, length-append (events_of (rec s i)) (left s (k + 1) (next s i)))
-
-pub copying_step : (s : List ℕ) (out₀ out out' : List ℤ) (offset p p' k i i' : ℕ) → Copying s out₀ out offset p k i → (i ≡ 0 → ⊥) → i' ≡ next s i
-    → out' ≡ sets out p (numbers (events_of (rec s i))) → p' ≡ p + 3 * length (events_of (rec s i)) → length out' ≡ length out
-    → Copying s out₀ out' offset p' (k + 1) i'
-copying_step s out₀ out out' offset p p' k i i' g nz ei eo ep l =
-    let e = left_step s k i i' g.along nz ei in
-    record {
-      along = along_step s k i i' g.along nz ei;
-      long = l ∙ g.long;
-      room = omega (arith, g.room, ep, ap length e, length-append (events_of (rec s i)) (left s (k + 1) i'));
-      written = numbers-then out out' p p' (events_of (rec s i)) (left s (k + 1) i') eo ep ∙ ap (λ (es : List Event). sets out p (numbers es)) (sym e) ∙ g.written;
-    }
-
-pub copying_end : (s : List ℕ) (out₀ out : List ℤ) (offset p k i : ℕ) → Copying s out₀ out offset p k i → i ≡ 0 → out ≡ sets out₀ offset (numbers (events s))
-copying_end s out₀ out offset p k i g e = sym (ap (λ (es : List Event). sets out p (numbers es)) (left_end s k i e)) ∙ g.written
+pub copying_end : (s : List ℕ) (out₀ out : List ℤ) (offset p : ℕ) (rest : List (List ℕ)) → Copying s out₀ out offset p rest → rest ≡ [] → out ≡ sets out₀ offset (numbers (events s))
+copying_end s out₀ out offset p rest g e = sym (ap (λ (rs : List (List ℕ)). sets out p (numbers (events_in rs))) e) ∙ g.written
 
 -- ---- the chain counted
-pub record Counting (s : List ℕ) (n k i : ℕ) : Type 0 where
-  pub along : Along s k i
-  pub most : n ≤ 256 * k
-  pub counted : n + length (left s k i) ≡ length (events s)
+pub record Counting (s : List ℕ) (n : ℕ) (rest : List (List ℕ)) : Type 0 where
+  pub most : n + 256 * length rest ≤ 524288
+  pub counted : n + length (events_in rest) ≡ length (events s)
 
-pub counting-start : (s : List ℕ) (i : ℕ) → refusal s ≡ 0 → i ≡ next s 0 → Counting s 0 0 i
-counting-start s i acc e = record { along = along_start s i acc e; most = omega arith; counted = omega (arith, ap length (left-start s i e)) }
+pub counting_start : (s : List ℕ) (rest : List (List ℕ)) → refusal s ≡ 0 → rest ≡ records s → Counting s 0 rest
+counting_start s rest acc e = record {
+  most = omega (arith, ap length e, records_long s acc);
+  counted = omega (arith, ap length (ap events_in e ∙ records_events s));
+}
 
-pub counting-step : (s : List ℕ) (n m k i i' : ℕ) → Counting s n k i → (i ≡ 0 → ⊥) → i' ≡ next s i → m ≡ length (events_of (rec s i)) → m < 256 → Counting s (n + m) (k + 1) i'
-counting-step s n m k i i' g nz ei em h =
-    let e = left_step s k i i' g.along nz ei in
-    record {
-      along = along_step s k i i' g.along nz ei;
-      most = omega (arith, g.most, h);
-      counted = omega (arith, g.counted, em, ap length e, length-append (events_of (rec s i)) (left s (k + 1) i'));
-    }
+pub counting_step : (s : List ℕ) (n m : ℕ) (rest : List (List ℕ)) (r : List ℕ) (rest' : List (List ℕ)) → Counting s n rest → rest ≡ r ∷ rest' → m ≡ length (events_of r) → m < 256 → Counting s (n + m) rest'
+counting_step s n m rest r rest' g e em h = record {
+  most = omega (arith, g.most, ap length e, h);
+  counted = omega (arith, g.counted, em, ap (λ (rs : List (List ℕ)). length (events_in rs)) e, length-append (events_of r) (events_in rest'));
+}
 
-pub counting_end : (s : List ℕ) (n k i : ℕ) → Counting s n k i → i ≡ 0 → (n ≡ length (events s)) × (n ≤ 524288)
-counting_end s n k i g e = (
-  omega (arith, g.counted, ap length (left_end s k i e)),
-  omega (arith, g.most, g.along.steps, g.along.size.most),
-)
+pub counting_end : (s : List ℕ) (n : ℕ) (rest : List (List ℕ)) → Counting s n rest → rest ≡ [] → (n ≡ length (events s)) × (n ≤ 524288)
+counting_end s n rest g e = (omega (arith, g.counted, ap (λ (rs : List (List ℕ)). length (events_in rs)) e), omega (arith, g.most))
 
 -- ---- the call
-pub read_refused : (s : List ℕ) (out : List ℤ) (offset n : ℕ) → n ≡ read_number s (length out) offset → (n ≡ 0 → ⊥)
-    → Gives s (length out) offset (Refused n) × (out ≡ read_result s out offset)
+pub read_refused : (s : List ℕ) (out : List ℤ) (offset : ℕ) (e : Refusal) → number e ≡ read_number s (length out) offset
+    → Gives s (length out) offset (Err e) × (out ≡ read_result s out offset)
 unfolding read_result
-read_refused s out offset n e h =
-    let z : read_number s (length out) offset ≡ 0 → ⊥ = λ q. h (e ∙ q) in
-    (record { number = e; counts = left_kept _ _ _ z }, left_kept _ _ _ z)
+read_refused s out offset e h =
+    let z : read_number s (length out) offset ≡ 0 → ⊥ = λ q. some_number e (h ∙ q) in
+    (record { number = h; counts = left_kept _ _ _ z }, left_kept _ _ _ z)
 
-pub read_past : (s : List ℕ) (out : List ℤ) (offset : ℕ) → length out < offset
-    → Gives s (length out) offset (Refused 7) × (out ≡ read_result s out offset)
-read_past s out offset h =
-    read_refused s out offset 7 (unfold read_number in rw (lt-leb offset (length out) h)) (λ z. omega arith)
-
-pub read_unread : (s : List ℕ) (out : List ℤ) (offset n : ℕ) (i : Inspected) → offset ≤ length out → Tells s i → i ≡ NotRead n
-    → Gives s (length out) offset (Refused n) × (out ≡ read_result s out offset)
+pub read_past : (s : List ℕ) (out : List ℤ) (offset : ℕ) (e : Refusal) → number e ≡ need (leb offset (length out)) 7 0
+    → Gives s (length out) offset (Err e) × (out ≡ read_result s out offset)
 unfolding read_number
-read_unread s out offset n i h w q =
+read_past s out offset e h = let u = need_unmet (leb offset (length out)) 7 e h in read_refused s out offset e (rw u.0 u.1)
+
+pub read_unread : (s : List ℕ) (out : List ℤ) (offset : ℕ) (e : Refusal) → offset ≤ length out → number e ≡ refusal s
+    → Gives s (length out) offset (Err e) × (out ≡ read_result s out offset)
+unfolding read_number
+read_unread s out offset e h n =
     let few : ℕ = need (leb (offset + 3 * length (events s)) (length out)) 7 0 in
-    let t = told_refused s i n w q in
-    read_refused s out offset n (rw (le-leb offset (length out) h) (or_some n few t.1 ∙ ap (λ (x : ℕ). or_next x few) t.0)) t.1
+    read_refused s out offset e (rw (le-leb offset (length out) h) (or_some (number e) few (some_number e) ∙ ap (λ (x : ℕ). or_next x few) n))
 
 module _ (s : List ℕ) (out : List ℤ) (offset : ℕ) (h : offset ≤ length out) (acc : refusal s ≡ 0) where
-  pub read_few : length out < offset + 3 * length (events s) → Gives s (length out) offset (Refused 7) × (out ≡ read_result s out offset)
-  read_few f =
-      read_refused s out offset 7
-      (unfold read_number in rw (le-leb offset (length out) h, acc, lt-leb (offset + 3 * length (events s)) (length out) f)) (λ z. omega arith)
+  pub read_few : (e : Refusal) (n : ℕ) → n ≡ length (events s) → number e ≡ need (leb (3 * n) (length out - offset)) 7 0
+      → Gives s (length out) offset (Err e) × (out ≡ read_result s out offset)
+  unfolding read_number
+  read_few e n q k =
+      let u = need_unmet (leb (3 * n) (length out - offset)) 7 e k in
+      let f : length out < offset + 3 * length (events s) = let l = leb-false (3 * n) (length out - offset) u.0 in omega arith in
+      read_refused s out offset e (rw (le-leb offset (length out) h, acc, lt-leb (offset + 3 * length (events s)) (length out) f) u.1)
 
   pub read_done : (n : ℕ) (out' : List ℤ) → n ≡ length (events s) → offset + 3 * length (events s) ≤ length out
-      → out' ≡ sets out offset (numbers (events s)) → Gives s (length out) offset (Events n) × (out' ≡ read_result s out offset)
+      → out' ≡ sets out offset (numbers (events s)) → Gives s (length out) offset (Ok n) × (out' ≡ read_result s out offset)
   unfolding read_count read_result
   read_done n out' e f w =
       let z : read_number s (length out) offset ≡ 0 =
       unfold read_number in rw (le-leb offset (length out) h, acc, le-leb (offset + 3 * length (events s)) (length out) f) in
       (record { number = sym z; counts = rw (z, e) }, rw z w)
-
--- what its cases say
-pub gave_refused : (s : List ℕ) (room offset n : ℕ) (r : Readout) → Gives s room offset r → r ≡ Refused n
-    → (n ≡ read_number s room offset) × (n ≡ 0 → ⊥)
-gave_refused s room offset n r g e = (
-  ap number_of (sym e) ∙ g.number,
-  λ z. left_none (read_number s room offset) (read_count s room offset) (sym g.counts ∙ ap counts_of e) (sym g.number ∙ ap number_of e ∙ z),
-)
-
-pub gave_events : (s : List ℕ) (room offset n : ℕ) (r : Readout) → Gives s room offset r → r ≡ Events n
-    → (read_number s room offset ≡ 0) × (n ≡ read_count s room offset)
-gave_events s room offset n r g e =
-    let z : read_number s room offset ≡ 0 = sym g.number ∙ ap number_of e in
-    (z, ap (λ l. get_or l 0 n) (sym (ap counts_of e) ∙ g.counts ∙ sym (left_done _ (read_count s room offset ∷ []) [] z)))
 
 -- ---- the events of a record written
 pub events_of_points : (r : List ℕ) (out out' : List ℤ) (p n : ℕ) → kind r ≡ 1 → n ≡ held r

@@ -65,6 +65,11 @@ chain_run : (s : List ℕ) → 0 < count s → chain_ok s ≡ true → Run (next
 unfolding chain chain_ok
 chain_run s h e = sound_run (next s) (count s) (next s 0) h e
 
+pub sound_size : (s : List ℕ) → refusal s ≡ 0 → size_ok s ≡ true
+unfolding refusal
+sound_size s e =
+    (need-zero (size_ok s) 11 (need (head_ok (rec s 0)) 12 (need (chain_ok s) 13 (need (records_ok s) 14 (need (total_ok s) 15 0)))) (omega arith) e).0
+
 pub accepted_sound : (s : List ℕ) → refusal s ≡ 0 → Sound s (chain s)
 unfolding refusal records_ok total_ok
 accepted_sound s e =

@@ -1,5 +1,5 @@
 -- Document 01, "Track store": next is an index, zero ends the chain. Nothing here knows bytes.
-use Rattle.std.specs.Prelude.{Bool, true, not, ◌&&◌, List, [], ◌∷◌, ◌++◌, ℕ, zero, suc, ◌+◌, max, eqb}
+use Rattle.std.specs.Prelude.{Bool, true, not, ◌&&◌, cond, List, [], ◌∷◌, ◌++◌, ℕ, zero, suc, ◌+◌, max, eqb, ltb}
 use Rattle.line.specs.Table.{every}
 
 -- the indexes met from i on, at most n of them; 0 ends the chain
@@ -22,6 +22,11 @@ greatest (i ∷ c) = max i (greatest c)
 abbrev pub distinct : List ℕ → Bool
 distinct [] = true
 distinct (i ∷ c) = every (λ j. not (eqb i j)) c && distinct c
+
+-- the chain from i on ends within n steps, with every index below m
+abbrev pub ends : (ℕ → ℕ) → ℕ → ℕ → ℕ → Bool
+ends f m zero i = eqb i 0
+ends f m (suc n) i = cond (eqb i 0) true (ltb i m && ends f m n (f i))
 
 -- the sum of a number for each member of a list, such as an index of a chain
 abbrev pub sum_over : {A : Type 0} → (A → ℕ) → List A → ℕ

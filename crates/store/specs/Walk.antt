@@ -1,10 +1,9 @@
 -- What the one walk along a store's chain finds: the contracts of `inspect` and of the functions under it.
-use Rattle.std.specs.Prelude.{◌≡◌, true, ◌&&◌, List, [], ◌∷◌, ℕ, ◌+◌, ◌*◌, ◌≤◌, ◌<◌, max, length}
+use Rattle.std.specs.Prelude.{◌≡◌, Bool, true, ◌&&◌, Result, Ok, Err, List, [], ◌∷◌, ℕ, ◌+◌, ◌*◌, ◌≤◌, ◌<◌, eqb, max, length}
 use Rattle.store.specs.declared.Trail.{Trail}
 use Rattle.store.specs.declared.View.{View}
-use Rattle.store.specs.declared.Inspected.{Inspected}
-use Rattle.store.specs.declared.Inspected.TheVariants.{Refused, Accepted}
-use Rattle.line.specs.Refusal.{accepted}
+use Rattle.line.specs.declared.refusal.Refusal.{Refusal}
+use Rattle.line.specs.Refusal.{numbered, need, accepted}
 use Rattle.line.specs.Table.{All}
 use Rattle.store.specs.Chain.{greatest, sum_over}
 use Rattle.store.specs.Layout.{count, rec, record_ok, span_of}
@@ -33,21 +32,21 @@ pub record Walked (s : List ℕ) (r : Trail) : Type 0 where
   pub last : r.ends ≡ true → r.last ≡ last_in s
   pub most : r.ends ≡ true → r.greatest ≡ greatest (chain s)
 
--- what each case of an inspection says: a refusal's number, 0 for none; and what is seen of the store, where it is accepted
-abbrev pub number_of : Inspected → ℕ
-number_of (Refused n) = n
-number_of (Accepted v) = 0
+-- numbers 12 to 15, of a head and of a walk of the chain
+abbrev pub sized_number : Bool → Trail → ℕ → ℕ
+sized_number head t total = need head 12 (need t.ends 13 (need t.fine 14 (need (eqb total t.sum) 15 0)))
 
-abbrev pub views_of : Inspected → List View
-views_of (Refused n) = []
-views_of (Accepted v) = v ∷ []
+-- what is seen of a store, where it is accepted
+abbrev pub views_of : Result View Refusal → List View
+views_of (Err e) = []
+views_of (Ok v) = v ∷ []
 
 -- the last and the greatest index of a store's chain, and the total
 abbrev pub view_of : List ℕ → View
 view_of s = record { last = last_in s; greatest = greatest (chain s); total = total s }
 
-pub record Tells (s : List ℕ) (r : Inspected) : Type 0 where
-  pub number : number_of r ≡ refusal s
+pub record Tells (s : List ℕ) (r : Result View Refusal) : Type 0 where
+  pub number : numbered r ≡ refusal s
   pub views : views_of r ≡ accepted (refusal s) (view_of s ∷ []) []
   pub small : All (λ v. v.total < 4294967296) (views_of r)
 

@@ -1,17 +1,21 @@
 // The records of a track store, their chain, and numbers 11 to 15. Document 01, "Track store".
 #![tactic(auto)]
 
-ghost use Rattle.std.specs.Prelude.{◌≡◌, true, false, [], ◌∷◌, ◌+◌, ◌*◌, ◌≤◌, ◌<◌, max, length, drop};
+ghost use Rattle.std.specs.Prelude.{◌≡◌, true, false, [], ◌∷◌, ◌+◌, ◌*◌, ◌≤◌, ◌<◌, length, drop};
 ghost use Rattle.std.proofs.lemmas.List.Edits.{sets};
 ghost use Rattle.line.specs.Point.{in_range};
+ghost use Rattle.line.specs.Refusal.{numbered};
 ghost use Rattle.octets.specs.Number.{i16};
 ghost use Rattle.store.specs.Layout.{rec, link_in, next, points, points_ok, record_ok, span_of, events_of};
 ghost use Rattle.store.specs.Store.{events, refusal, size_ok, has_mark, head_ok};
 ghost use Rattle.store.specs.Reads.{numbers, Gives, read_result};
-ghost use Rattle.store.specs.Walk.{Sized, Passed, Walked, Tells};
+ghost use Rattle.store.specs.Walk.{Sized, Passed, Walked, Tells, sized_number};
 
-use line::{coordinate_ok, mode_ok, need, role_ok};
+pub use chain::{ChainRecords, Track, open};
+use line::{Refusal, coordinate_ok, mode_ok, need, role_ok};
 use octets::{get_i16, get8, get16, get32, zero_from};
+
+mod chain; // an accepted store, and its records
 
 // Where record 0 holds the chain's first index and the total.
 pub const FIRST_AT: usize = 6;
@@ -38,15 +42,14 @@ fn points_ok(r: &[u8], n: usize) -> bool
     ensures { result ≡ points_ok (drop 4 r.now) n }
 {
     let mut fine = true;
-    let mut k = 0;
-    while k < 7 {
-        fine = fine & point_ok(r, 4 + 4 * k);
-        k += 1;
+    for k in 0..7 {
+        fine &= point_ok(r, 4 + 4 * k);
     }
     fine & zero_from(r, 4 + 4 * n)
 }
 
-// Whether a chain record keeps to the layout.
+// Whether a chain record keeps to the layout. A kind stays the number of the layout here and below, 1 for points and 2 for a
+// lost count: the definitions `is_points` and `record_ok` read that byte, and an enum for one test of it is no plainer.
 fn record_ok(r: &[u8]) -> bool
     ensures { result ≡ record_ok r.now }
 {
@@ -126,12 +129,6 @@ struct Trail {
     greatest: usize,
 }
 
-fn larger(a: usize, b: usize) -> usize
-    ensures { result ≡ max a b }
-{
-    if a < b { b } else { a }
-}
-
 // The walk over one record more.
 fn passed(t: Trail, s: &[u8], i: usize) -> Trail
     requires { (32 * i + 32 ≤ length s.now) × (t.sum < 17592186044416) }
@@ -139,15 +136,16 @@ fn passed(t: Trail, s: &[u8], i: usize) -> Trail
 {
     let r = record_at(s, i);
     Trail {
-        ends: t.ends,
         fine: t.fine & record_ok(r),
         sum: t.sum + span(r),
         last: i,
-        greatest: larger(t.greatest, i),
+        greatest: t.greatest.max(i),
+        ..t
     }
 }
 
 // The walk of the whole chain. It ends on every store: after as many steps as there are records an index has come twice.
+// A `while`, since it goes from link to link: `k` counts steps, and is no index of anything.
 fn follow(s: &[u8]) -> Trail
     requires { Sized s.now }
     ensures { Walked s.now result }
@@ -173,13 +171,7 @@ fn follow(s: &[u8]) -> Trail
         k += 1;
         i = next_of(s, i);
     }
-    Trail {
-        ends: true,
-        fine: t.fine,
-        sum: t.sum,
-        last: t.last,
-        greatest: t.greatest,
-    }
+    Trail { ends: true, ..t }
 }
 
 // What an append has to know of an accepted store: the chain's last and greatest index, and the total.
@@ -190,35 +182,32 @@ pub struct View {
     pub total: usize,
 }
 
-#[derive(Clone, Copy)]
-pub enum Inspected {
-    Refused(u8),
-    Accepted(View),
-}
-
 pub fn size_ok(s: &[u8]) -> bool
     ensures { result ≡ size_ok s.now }
 {
     (s.len() % 32 == 0) & (64 <= s.len()) & (s.len() <= 65536)
 }
 
+// What is wrong with a store of a right size: its head, and what the walk found.
+fn sized_fault(head: bool, t: Trail, total: usize) -> Result<(), Refusal>
+    ensures { numbered result ≡ sized_number head t total }
+{
+    need(head, Refusal::StoreHead)?;
+    need(t.ends, Refusal::StoreIndex)?;
+    need(t.fine, Refusal::StoreRecord)?;
+    need(total == t.sum, Refusal::StoreTotal)
+}
+
 // A store of a right size.
-fn inspect_sized(s: &[u8]) -> Inspected
+fn inspect_sized(s: &[u8]) -> Result<View, Refusal>
     requires { size_ok s.now ≡ true }
     ensures { Tells s.now result }
 {
     let t = follow(s);
     let total = get32(s, TOTAL_AT);
     let head = head_ok(record_at(s, 0));
-    let number = need(
-        head,
-        12,
-        need(t.ends, 13, need(t.fine, 14, need(total == t.sum, 15, 0))),
-    );
-    if number != 0 {
-        return Inspected::Refused(number);
-    }
-    Inspected::Accepted(View {
+    sized_fault(head, t, total)?;
+    Ok(View {
         last: t.last,
         greatest: t.greatest,
         total,
@@ -226,13 +215,11 @@ fn inspect_sized(s: &[u8]) -> Inspected
 }
 
 // The store's numbers, 11 to 15, in one walk.
-pub fn inspect(s: &[u8]) -> Inspected
+pub fn inspect(s: &[u8]) -> Result<View, Refusal>
     ensures { Tells s.now result }
 {
-    if size_ok(s) {
-        return inspect_sized(s);
-    }
-    Inspected::Refused(11)
+    need(size_ok(s), Refusal::StoreSize)?;
+    inspect_sized(s)
 }
 
 // ---- reading
@@ -248,17 +235,12 @@ fn events_in(r: &[u8]) -> usize
 }
 
 // How many events an accepted store holds.
-fn count_events(s: &[u8]) -> usize
-    requires { refusal s.now ≡ 0 }
-    ensures { (result ≡ length (events s.now)) × (result ≤ 524288) }
+fn count_events(track: Track) -> usize
+    ensures { (result ≡ length (events track.entry.bytes.now)) × (result ≤ 524288) }
 {
-    let mut n: usize = 0;
-    let mut k: usize = 0;
-    let mut i = next_of(s, 0);
-    while i != 0 {
-        n += events_in(record_at(s, i));
-        k += 1;
-        i = next_of(s, i);
+    let mut n = 0;
+    for record in track.records() {
+        n += events_in(record);
     }
     n
 }
@@ -285,13 +267,11 @@ fn put_points(r: &[u8], n: usize, out: &mut [i64], at: usize)
     requires { (n < 256) × (at + 3 * n ≤ length out.old) }
     ensures { out.new ≡ sets out.old at (numbers (points (drop 4 r.now) n)) }
 {
-    let mut k = 0;
-    while k < n {
+    for k in 0..n {
         let from = 4 + 4 * k;
         let re = coordinate(r, from);
         let im = coordinate(r, from + 2);
         put_event(out, at + 3 * k, 1, re, im);
-        k += 1;
     }
 }
 
@@ -310,49 +290,32 @@ fn put_events(r: &[u8], out: &mut [i64], at: usize) -> usize
 }
 
 // The events of an accepted store's chain.
-fn put_chain(s: &[u8], out: &mut [i64], offset: usize)
-    requires { (refusal s.now ≡ 0) × (offset + 3 * length (events s.now) ≤ length out.old) }
-    ensures { out.new ≡ sets out.old offset (numbers (events s.now)) }
+fn put_chain(track: Track, out: &mut [i64], offset: usize)
+    requires { offset + 3 * length (events track.bytes.now) ≤ length out.old }
+    ensures { out.new ≡ sets out.old offset (numbers (events track.entry.bytes.now)) }
 {
     let mut at = offset;
-    let mut k: usize = 0;
-    let mut i = next_of(s, 0);
-    while i != 0 {
-        at = put_events(record_at(s, i), out, at);
-        k += 1;
-        i = next_of(s, i);
+    for record in track.records() {
+        at = put_events(record, out, at);
     }
 }
 
-// What reading gives: the number that refuses it, or how many events were written.
-#[derive(Clone, Copy)]
-pub enum Readout {
-    Refused(u8),
-    Events(usize),
+// Writes all events of an accepted store, if the lent numbers suffice; how many they are.
+fn read_accepted(track: Track, out: &mut [i64], offset: usize) -> Result<usize, Refusal>
+    requires { offset ≤ length out.old }
+    ensures { Gives track.entry.bytes.now (length out.old) offset result × (out.new ≡ read_result track.entry.bytes.now out.old offset) }
+{
+    let count = count_events(track);
+    need(3 * count <= out.len() - offset, Refusal::Lent)?;
+    put_chain(track, out, offset);
+    Ok(count)
 }
 
-// Writes all events of an accepted store, if the lent numbers suffice.
-fn read_accepted(store: &[u8], out: &mut [i64], offset: usize) -> Readout
-    requires { (refusal store.now ≡ 0) × (offset ≤ length out.old) }
+// Reads all events, three numbers for each, into the lent numbers from the offset on; how many they are.
+pub fn read(store: &[u8], out: &mut [i64], offset: usize) -> Result<usize, Refusal>
     ensures { Gives store.now (length out.old) offset result × (out.new ≡ read_result store.now out.old offset) }
 {
-    let count = count_events(store);
-    if out.len() - offset < 3 * count {
-        return Readout::Refused(7);
-    }
-    put_chain(store, out, offset);
-    Readout::Events(count)
-}
-
-// Reads all events, three numbers for each, into the lent numbers from the offset on.
-pub fn read(store: &[u8], out: &mut [i64], offset: usize) -> Readout
-    ensures { Gives store.now (length out.old) offset result × (out.new ≡ read_result store.now out.old offset) }
-{
-    if out.len() < offset {
-        return Readout::Refused(7);
-    }
-    match inspect(store) {
-        Inspected::Refused(number) => Readout::Refused(number),
-        Inspected::Accepted(_) => read_accepted(store, out, offset),
-    }
+    need(offset <= out.len(), Refusal::Lent)?;
+    let track = open(store)?;
+    read_accepted(track, out, offset)
 }

@@ -1,31 +1,21 @@
 // Prints the last line of a store's listing alone: document 02, R-2.
 #![tactic(auto)]
 
-use listing::Listed;
-use std::io::{Eprint, Print};
-use store::Inspected;
+use console::Stop;
+use std::io::{Print, Read};
 
-// The line of a store; whether it was written.
-fn put_line(rt: &(impl Print + Eprint), input: &[u8]) -> bool {
-    let mut out = [0u8; 64];
-    match listing::sum_text(input, &mut out) {
-        Listed::Refused(_) => false,
-        Listed::Written(count) => console::emit_first(rt, &out, count),
-    }
+// Writes the last line of a store's listing. A store has at most 65,536 bytes. One byte more is kept, so that a longer input is refused for its
+// size.
+fn sum_store<R: Read>(rt: &impl Print, input: &mut R) -> Result<(), Stop> {
+    let mut bytes = [0u8; 65537];
+    let n = console::read_kept(input, &mut bytes)?;
+    let mut line = [0u8; 64];
+    let count = listing::sum_text(&bytes[..n], &mut line)?;
+    console::emit_first(rt, &line, count)?;
+    store::inspect(&bytes[..n])?;
+    Ok(())
 }
 
-// A store has at most 65,536 bytes. One byte more is kept, so that a longer input is refused for its size.
 fn main(rt: HostRuntime) {
-    let mut input = [0u8; 65537];
-    let came = console::read_kept(&rt, &mut rt.stdin(), &mut input);
-    if came.failure.is_some() {
-        return;
-    }
-    let n = came.count;
-    if put_line(&rt, &input[..n]) {
-        match store::inspect(&input[..n]) {
-            Inspected::Refused(number) => console::say_refused(&rt, number, 0),
-            Inspected::Accepted(_) => {}
-        }
-    }
+    console::tell(&rt, sum_store(&rt, &mut rt.stdin()));
 }

@@ -95,7 +95,7 @@ lost_sums r n k e h =
     (sym one ∙ ap (λ (m : ℕ). sums_of (lost m ∷ [])) e ∙ ap sums_of (sym (of_lost r k)), record { points_in_lem = omega arith; lost_in_lem = omega arith; gaps_in_lem = omega arith })
 
 -- ---- events in parts
-same_sums : (a b : EventSums) → a.points ≡ b.points → a.lost ≡ b.lost → a.gaps ≡ b.gaps → a ≡ b
+pub same_sums : (a b : EventSums) → a.points ≡ b.points → a.lost ≡ b.lost → a.gaps ≡ b.gaps → a ≡ b
 same_sums a b p l g =
     let of : ℕ → ℕ → ℕ → EventSums = λ x y z. record { points = x; lost = y; gaps = z } in
     ap (λ (x : ℕ). of x a.lost a.gaps) p ∙ ap (λ (y : ℕ). of b.points y a.gaps) l ∙ ap (of b.points b.lost) g

@@ -1,14 +1,13 @@
 -- Document 02, R-2: what a track's events sum to, P, L and G of the line `sum points P lost L gaps G`.
-use Rattle.std.specs.Prelude.{◌≡◌, cond, List, [], ◌∷◌, ℕ, ◌+◌, ◌≤◌}
+use Rattle.std.specs.Prelude.{◌≡◌, cond, Result, Ok, Err, List, [], ◌∷◌, ℕ, ◌+◌, ◌≤◌}
 use Rattle.line.specs.Point.{is_origin}
-use Rattle.line.specs.Refusal.{accepted}
+use Rattle.line.specs.declared.refusal.Refusal.{Refusal}
+use Rattle.line.specs.Refusal.{numbered, accepted}
 use Rattle.line.specs.Table.{All}
 use Rattle.store.specs.Chain.{sum_over}
 use Rattle.store.specs.Layout.{Event, point, lost}
 use Rattle.store.specs.Store.{events, refusal}
 use Rattle.summing.specs.declared.EventSums.{EventSums}
-use Rattle.summing.specs.declared.Summed.{Summed}
-use Rattle.summing.specs.declared.Summed.TheVariants.{Refused, Sums}
 
 -- "P counts decided points": each point but one at the origin, which is no state
 abbrev pub decided_in : Event → ℕ
@@ -33,21 +32,17 @@ sums_of es = record { points = sum_over decided_in es; lost = sum_over lost_in e
 abbrev pub plus : EventSums → EventSums → EventSums
 plus a b = record { points = a.points + b.points; lost = a.lost + b.lost; gaps = a.gaps + b.gaps }
 
--- what each case of the answer says: a refusal's number, 0 for none; and the sums, where it is not refused
-abbrev pub number_of : Summed → ℕ
-number_of (Refused n) = n
-number_of (Sums v) = 0
-
-abbrev pub sums_in : Summed → List EventSums
-sums_in (Refused n) = []
-sums_in (Sums v) = v ∷ []
+-- the sums, where the store is not refused
+abbrev pub sums_in : Result EventSums Refusal → List EventSums
+sums_in (Err e) = []
+sums_in (Ok v) = v ∷ []
 
 -- each of the three is a number of 32 bits
 abbrev pub Small : EventSums → Type 0
 Small v = (v.points ≤ 4294967295) × (v.lost ≤ 4294967295) × (v.gaps ≤ 4294967295)
 
 -- the sums of a store's events, or the number that refuses the store
-pub record Tells (s : List ℕ) (r : Summed) : Type 0 where
-  pub number : number_of r ≡ refusal s
+pub record Tells (s : List ℕ) (r : Result EventSums Refusal) : Type 0 where
+  pub number : numbered r ≡ refusal s
   pub sums : sums_in r ≡ accepted (refusal s) (sums_of (events s) ∷ []) []
   pub small : All Small (sums_in r)

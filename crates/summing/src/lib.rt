@@ -6,15 +6,16 @@ ghost use Rattle.line.specs.Point.{at};
 ghost use Rattle.octets.specs.Number.{i16};
 ghost use Rattle.store.specs.Chain.{sum_over};
 ghost use Rattle.store.specs.Layout.{point, points, events_of};
-ghost use Rattle.store.specs.Store.{events, refusal};
-ghost use Rattle.summing.specs.Sums.{gaps_in, sums_of, plus, Tells};
+ghost use Rattle.store.specs.Store.{events};
+ghost use Rattle.summing.specs.Sums.{gaps_in, sums_of, plus, Small, Tells};
 ghost use Rattle.summing.specs.Room.{OfRecords};
 
-use octets::{get8, get16, get32};
-use store::{FIRST_AT, Inspected};
+use line::Refusal;
+use octets::{get8, get32};
+use store::Track;
 
 // P, L and G of events: decided points, lost intervals, gaps.
-#[derive(Clone, Copy)]
+#[derive(Clone, Copy, Default)]
 pub struct EventSums {
     pub points: u64,
     pub lost: u64,
@@ -36,11 +37,9 @@ fn origins_in(r: &[u8], n: usize) -> u64
     requires { n < 256 }
     ensures { (result ≡ sum_over gaps_in (points (drop 4 r.now) n)) × (result ≤ n) }
 {
-    let mut origins: u64 = 0;
-    let mut k = 0;
-    while k < n {
+    let mut origins = 0;
+    for k in 0..n {
         origins += origin_at(r, 4 + 4 * k);
-        k += 1;
     }
     origins
 }
@@ -79,40 +78,20 @@ fn added(a: EventSums, b: EventSums) -> EventSums
 }
 
 // The sums of an accepted store's events.
-fn chain_sums(s: &[u8]) -> EventSums
-    requires { refusal s.now ≡ 0 }
-    ensures { (result ≡ sums_of (events s.now)) × OfRecords 2048 result }
+pub fn chain_sums(track: Track) -> EventSums
+    ensures { (result ≡ sums_of (events track.entry.bytes.now)) × Small result }
 {
-    let mut v = EventSums {
-        points: 0,
-        lost: 0,
-        gaps: 0,
-    };
-    let mut k: usize = 0;
-    let mut i = get16(s, FIRST_AT);
-    while i != 0 {
-        let at = 32 * i;
-        let end = at + 32;
-        v = added(v, record_sums(&s[at..end]));
-        k += 1;
-        i = get16(s, at);
+    let mut v = EventSums::default();
+    for record in track.records() {
+        v = added(v, record_sums(record));
     }
     v
 }
 
-// What summing gives: the number that refuses the store, or its sums.
-#[derive(Clone, Copy)]
-pub enum Summed {
-    Refused(u8),
-    Sums(EventSums),
-}
-
 // The sums of a store.
-pub fn sums(store: &[u8]) -> Summed
+pub fn sums(store: &[u8]) -> Result<EventSums, Refusal>
     ensures { Tells store.now result }
 {
-    match store::inspect(store) {
-        Inspected::Refused(number) => Summed::Refused(number),
-        Inspected::Accepted(_) => Summed::Sums(chain_sums(store)),
-    }
+    let track = store::open(store)?;
+    Ok(chain_sums(track))
 }

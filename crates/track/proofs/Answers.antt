@@ -1,15 +1,16 @@
 -- Needs, and what a call answers from what it looked at. Assumes nothing.
 use mathlib.Core.Path.{◌≡◌, sym, ap, ◌∙◌}
-use mathlib.Core.Bool.{true, false, not, ◌&&◌, ◌||◌}
-use Prim.Native.Nat.{ℕ, ◌+◌, ◌*◌, ◌-◌, ◌≤◌, ◌<◌}
+use mathlib.Core.Bool.{Bool, true, false, not, ◌&&◌, ◌||◌}
+use Prim.Native.Nat.{ℕ, zero, suc, ◌+◌, ◌*◌, ◌-◌, ◌≤◌, ◌<◌}
 use native.Mathlib.Omega.{arith}
 use borrow.Author.Tests.{eqb-true, eqb-false, leb-true, le-leb, lt-leb, ltb-true, not-true}
 use mathlib.Core.List.{List}
 use lib.Dec.{eqb, leb, ltb}
 use lib.ListN.{length}
 use lib.Seq.{sets}
-use Rattle.line.specs.Refusal.{need}
-use Rattle.store.specs.Store.{chain, total, refusal}
+use Rattle.line.specs.declared.refusal.Refusal.{Refusal}
+use Rattle.line.specs.Refusal.{number, need, mode_refusal}
+use Rattle.store.specs.Store.{chain, total, size_ok, refusal}
 use Rattle.line.specs.declared.Point.{Point}
 use Rattle.line.specs.Point.{in_range}
 use Rattle.store.specs.declared.View.{View}
@@ -19,14 +20,27 @@ use Rattle.store.specs.Layout.{count, rec, write, link_in, held, is_points, lost
 use Rattle.track.specs.Append.{most_intervals, new_index, is_full, made, make_number, make_result, lost_appended, lost_number, lost_result, has_room, point_appended, point_number, point_result}
 use Rattle.line.specs.Refusal.{or_next}
 use Rattle.store.specs.Store.{last_in}
-use Rattle.store.specs.Walk.{Tells, Viewed}
-use Rattle.store.specs.declared.Inspected.{Inspected}
-use Rattle.store.specs.declared.Inspected.TheVariants.{Refused}
-use Rattle.store.proofs.Views.{told_refused}
+use Rattle.store.specs.Walk.{Viewed}
 use Rattle.track.specs.Points.{spaces}
 use Rattle.line.proofs.Tests.{by_test, and_split}
-use Rattle.line.proofs.RefusalLaws.{left_done, left_kept, need-zero, or_some, or_zero}
+use Rattle.line.proofs.RefusalLaws.{some_number, left_done, left_kept, need-zero, or_some, or_zero}
 use Rattle.store.proofs.Sounds.{accepted_sound, sound_last, sound_greatest}
+
+-- ---- needs, one after the other: the first that is not met refuses
+pub need_first : (b : Bool) (n k : ℕ) (e : Refusal) → number e ≡ need b n 0 → number e ≡ need b n k
+need_first true n k e h = absurd (some_number e h)
+need_first false n k e h = h
+
+pub need_then : (b : Bool) (n k x : ℕ) → 0 < n → 0 ≡ need b n 0 → x ≡ k → x ≡ need b n k
+need_then true n k x p z h = h
+need_then false n k x p z h = absurd (omega arith)
+
+pub next_first : (a b : ℕ) (e : Refusal) → number e ≡ a → number e ≡ or_next a b
+next_first a b e h = h ∙ or_some a b (λ z. some_number e (h ∙ z))
+
+pub next_then : (a b x : ℕ) → 0 ≡ a → x ≡ b → x ≡ or_next a b
+next_then zero b x z h = h
+next_then (suc a) b x z h = absurd (omega arith)
 
 -- ---- making
 pub make_done : (s : List ℕ) (mode role : ℕ) → make_number s mode role ≡ 0 → made (length s) mode role ≡ make_result s mode role
@@ -37,22 +51,39 @@ pub make_kept : (s : List ℕ) (mode role : ℕ) → (make_number s mode role �
 unfolding make_result
 make_kept s mode role h = left_kept (make_number s mode role) (made (length s) mode role) s h
 
+pub make_refused : (s : List ℕ) (mode role : ℕ) (e : Refusal) → number e ≡ make_number s mode role
+    → (number e ≡ make_number s mode role) × (s ≡ make_result s mode role)
+make_refused s mode role e h = (h, make_kept s mode role (λ z. some_number e (h ∙ z)))
+
+module _ (s : List ℕ) (mode role : ℕ) where
+  pub make_mode : (e : Refusal) → number e ≡ mode_refusal mode role → (number e ≡ make_number s mode role) × (s ≡ make_result s mode role)
+  unfolding make_number
+  make_mode e h = make_refused s mode role e (next_first (mode_refusal mode role) _ e h)
+
+  module _ (m : 0 ≡ mode_refusal mode role) where
+    pub make_size : (e : Refusal) → number e ≡ need (size_ok s) 11 0 → (number e ≡ make_number s mode role) × (s ≡ make_result s mode role)
+    unfolding make_number
+    make_size e h = make_refused s mode role e (next_then (mode_refusal mode role) _ _ m h)
+
+    pub make_taken : (t : List ℕ) → 0 ≡ need (size_ok s) 11 0 → t ≡ made (length s) mode role → (0 ≡ make_number s mode role) × (t ≡ make_result s mode role)
+    unfolding make_number
+    make_taken t z e = let n : 0 ≡ make_number s mode role = next_then (mode_refusal mode role) _ _ m z in (n, e ∙ make_done s mode role (sym n))
+
 -- ---- a lost count
 pub lost_kept : (s : List ℕ) (n : ℕ) → (lost_number s n ≡ 0 → ⊥) → s ≡ lost_result s n
 unfolding lost_result
 lost_kept s n h = left_kept (lost_number s n) (lost_appended s n) s h
 
-pub lost_none : (s : List ℕ) (n : ℕ) → n ≡ 0 → (9 ≡ lost_number s n) × (s ≡ lost_result s n)
-unfolding lost_number lost_result
-lost_none s n e = (rw e, rw e)
+pub lost_refused : (s : List ℕ) (n : ℕ) (e : Refusal) → number e ≡ lost_number s n → (number e ≡ lost_number s n) × (s ≡ lost_result s n)
+lost_refused s n e h = (h, lost_kept s n (λ z. some_number e (h ∙ z)))
 
-pub lost_refused : (s : List ℕ) (n x : ℕ) (i : Inspected) → (n ≡ 0 → ⊥) → Tells s i → i ≡ Refused x → (x ≡ lost_number s n) × (s ≡ lost_result s n)
+pub lost_none : (s : List ℕ) (n : ℕ) (e : Refusal) → number e ≡ need (leb 1 n) 9 0 → (number e ≡ lost_number s n) × (s ≡ lost_result s n)
 unfolding lost_number
-lost_refused s n x i h w q =
-    let t = told_refused s i x w q in
-    let rest : ℕ = need (leb (total s + n) most_intervals) 16 (need (not (is_full s)) 17 0) in
-    let e : x ≡ lost_number s n = rw (le-leb 1 n (omega (arith, h))) (or_some x rest t.1 ∙ ap (λ (y : ℕ). or_next y rest) t.0) in
-    (e, lost_kept s n (λ z. t.1 (e ∙ z)))
+lost_none s n e h = lost_refused s n e (need_first (leb 1 n) 9 _ e h)
+
+pub lost_unread : (s : List ℕ) (n : ℕ) (e : Refusal) → 0 ≡ need (leb 1 n) 9 0 → number e ≡ refusal s → (number e ≡ lost_number s n) × (s ≡ lost_result s n)
+unfolding lost_number
+lost_unread s n e z h = lost_refused s n e (need_then (leb 1 n) 9 _ _ (omega arith) z (next_first (refusal s) _ e h))
 
 pub lost_seen : (s : List ℕ) (v : View) (n x : ℕ) → Viewed s v → 1 ≤ n
     → x ≡ need (leb (v.total + n) most_intervals) 16 (need (not (eqb (v.greatest + 1) (count s))) 17 0) → x ≡ lost_number s n

@@ -1,5 +1,5 @@
 -- A point placed in an accepted store: what an append has to know of the store after it. Assumes nothing.
-use mathlib.Core.Path.{◌≡◌, refl, sym, ap, ap₂, ◌∙◌}
+use mathlib.Core.Path.{◌≡◌, refl, sym, ap, ◌∙◌}
 use mathlib.Core.Bool.{true, false}
 use mathlib.Core.List.{List, [], ◌∷◌, ◌++◌}
 use mathlib.Core.Logic.{◌⊎◌, inl, inr}
@@ -8,7 +8,7 @@ use Prim.Native.Nat.{ℕ, zero, suc, ◌+◌, ◌*◌, ◌/◌, ◌≤◌, ◌<�
 use native.Mathlib.Omega.{arith}
 use borrow.Author.Tests.{ne_eqb, lt-ltb, le-ltb, ltb-true, ltb-false}
 use lib.Dec.{ltb}
-use lib.ListN.{length, set}
+use lib.ListN.{length}
 use lib.Seq.{sets}
 use Rattle.line.specs.declared.Point.{Point}
 use Rattle.octets.specs.Number.{le16, le32}
@@ -27,12 +27,6 @@ use Rattle.track.specs.Placing.{Ends, placed, next_end}
 use Rattle.store.proofs.Chains.{greatest_new, last_snoc}
 use Rattle.track.proofs.Appends.{Appended, GrownLast, point_law, point_linked, point_grown}
 use Rattle.track.proofs.Answers.{PointFree, point_free, room_less}
-
--- four bytes, one after the other
-pub four_bytes : (l l' : List ℕ) (i x y z w : ℕ) → l' ≡ set (set (set (set l i x) (i + 1) y) (i + 2) z) (i + 3) w → l' ≡ sets l i (x ∷ y ∷ z ∷ w ∷ [])
-four_bytes l l' i x y z w e =
-    e ∙ ap₂ (λ (m n : ℕ). set (set (set (set l i x) m y) n z) (i + 3) w) (let q : i + 1 ≡ suc i = omega arith in q) (let q : i + 2 ≡ suc (suc i) = omega arith in q)
-    ∙ ap (λ (m : ℕ). set (set (set (set l i x) (suc i) y) (suc (suc i)) z) m w) (let q : i + 3 ≡ suc (suc (suc i)) = omega arith in q)
 
 pub point_appended_lem : (s : List ℕ) (p : Point) → point_number s p ≡ 0 → Appended s (point_appended s p) (point p) 1
 point_appended_lem s p e = let f = point_free s p e in point_law s p f.accepted f.range (omega (arith, f.fits)) f.room

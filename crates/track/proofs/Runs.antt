@@ -1,36 +1,34 @@
 -- Many points appended by one call: when none is refused, and the loop that writes them. Assumes nothing.
 use mathlib.Core.Path.{◌≡◌, refl, sym, ap, ◌∙◌, subst}
-use mathlib.Core.Bool.{Bool, true, false, not, ◌&&◌, ◌||◌, and_assoc, and-true}
-use mathlib.Core.List.{List, [], ◌∷◌, map}
+use mathlib.Core.Bool.{Bool, true, not, ◌&&◌, ◌||◌, and_assoc, and-true}
+use mathlib.Core.List.{List, [], ◌∷◌, ◌++◌, map}
 use Prim.Native.Nat.{ℕ, zero, suc, ◌+◌, ◌/◌, ◌%◌, ◌≤◌, ◌<◌}
 use native.Mathlib.Omega.{arith}
-use borrow.Author.Tests.{eq-eqb, ne_eqb, eqb-true, leb-true, le-leb}
+use borrow.Author.Tests.{eq-eqb, eqb-true, leb-true, le-leb}
 use lib.Dec.{eqb, leb}
 use lib.IntN.{ℤ, pos}
-use lib.ListN.{length, get_or, drop}
+use lib.ListN.{length, get_or}
 use lib.Seq.{sets, length-sets}
 use Rattle.line.specs.declared.Point.{Point}
 use Rattle.line.specs.Point.{at, pairs, coordinate_in, in_range, coordinates_in}
-use Rattle.line.specs.Refusal.{need, or_next, accepted}
+use Rattle.line.specs.Refusal.{number, need, or_next, accepted}
 use Rattle.line.specs.Table.{every}
-use Rattle.line.proofs.PointLaws.{pairs-step, pairs_end, pairs-length}
-use Rattle.line.proofs.RefusalLaws.{need-zero, or_some, or_zero, or_same, left_done, left_kept}
+use Rattle.line.proofs.PointLaws.{pairs_end, pairs-length}
+use Rattle.line.proofs.RefusalLaws.{some_number, need-zero, or_zero, or_same, left_done, left_kept}
 use Rattle.line.proofs.Tests.{and_split, and_join}
 use Rattle.octets.specs.Number.{le32}
 use Rattle.store.specs.declared.View.{View}
-use Rattle.store.specs.declared.Inspected.{Inspected}
-use Rattle.store.specs.declared.Inspected.TheVariants.{Refused}
+use Rattle.line.specs.declared.refusal.Refusal.{Refusal}
 use Rattle.store.specs.Layout.{Event, point}
 use Rattle.store.specs.Store.{last_in, total, refusal}
-use Rattle.store.specs.Walk.{Tells, Viewed}
+use Rattle.store.specs.Walk.{Viewed}
 use Rattle.store.proofs.Sounds.{accepted_sound, sound_last}
-use Rattle.store.proofs.Views.{told_refused}
 use Rattle.track.specs.declared.End.{End}
 use Rattle.track.specs.Append.{most_intervals, is_full, has_room, point_appended, point_number, point_result}
 use Rattle.track.specs.Calls.{call_result, after, taken, EachAccepted}
 use Rattle.track.specs.Points.{point_events, spaces, points_number, points_result, JustWhen, AllTaken}
 use Rattle.track.specs.Placing.{Ends, Reach, placed, next_end}
-use Rattle.track.proofs.Answers.{point_free, free_point, spaces_some, point_done}
+use Rattle.track.proofs.Answers.{need_first, next_first, point_free, free_point, spaces_some, point_done}
 use Rattle.track.proofs.Places.{point_appended_lem, spaces_less, Apart, apart-placed, total_over, placed_total, ends_next, last_positive, new_room}
 
 -- ---- when none is refused
@@ -106,30 +104,31 @@ pub all_taken : AllTaken
 all_taken s zs e = let f = number_fits s zs e in taken_all s (point_events zs) (none_refused s (pairs zs) f.1 f.2)
 
 -- ---- writing
--- after the numbers before place k the bytes are s, and with the total they are `full`: what is left to append to it is all
--- that is left to do
-pub record Placing (s₀ s : List ℕ) (d : End) (t : ℕ) (zs : List ℤ) (k : ℕ) : Type 0 where
+-- the points of `rest` are left to append: before them the bytes are s, and with the total they are `full`; what is left to
+-- append to it is all that is left to do
+pub record Placing (s₀ s : List ℕ) (d : End) (t : ℕ) (zs rest : List ℤ) : Type 0 where
   pub full : List ℕ
-  pub place : k ≤ length zs + 1
   pub long : length s ≡ length s₀
   pub like : Apart s full
-  pub kept : 0 < k → sets full 8 (le32 t) ≡ full
+  pub kept : length rest < length zs → sets full 8 (le32 t) ≡ full
   pub ends : Ends full t d
   pub fits : t < 4294967296
-  pub free : EachAccepted full (point_events (drop k zs))
-  pub left : after full (point_events (drop k zs)) ≡ after s₀ (point_events zs)
+  pub free : EachAccepted full (point_events rest)
+  pub left : after full (point_events rest) ≡ after s₀ (point_events zs)
 
-first_free : (s : List ℕ) (zs : List ℤ) (k : ℕ) → k + 1 < length zs → EachAccepted s (point_events (drop k zs))
-    → (point_number s (at (get_or zs k (pos 0)) (get_or zs (k + 1) (pos 0))) ≡ 0)
-    × EachAccepted (point_result s (at (get_or zs k (pos 0)) (get_or zs (k + 1) (pos 0)))) (point_events (drop (k + 2) zs))
-first_free s zs k h n = subst (λ (ps : List Point). EachAccepted s (map point ps)) (pairs-step zs k h) n
+-- a point that stands in front of others
+pairs_front : (rest block more : List ℤ) → rest ≡ block ++ more → length block ≡ 2
+    → pairs rest ≡ at (get_or block 0 (pos 0)) (get_or block 1 (pos 0)) ∷ pairs more
+pairs_front rest [] more e n = absurd (omega arith)
+pairs_front rest (x ∷ []) more e n = absurd (omega arith)
+pairs_front rest (x ∷ y ∷ []) more e n = ap pairs e
+pairs_front rest (x ∷ y ∷ z ∷ zs) more e n = absurd (omega arith)
 
-pub placing_start : (s : List ℕ) (v : View) (d : End) (zs : List ℤ) → Viewed s v → EachAccepted s (point_events zs) → 2 ≤ length zs
-    → Ends s v.total d → Placing s s d v.total zs 0
-placing_start s v d zs w e h g =
+pub placing_start : (s : List ℕ) (v : View) (d : End) (zs : List ℤ) → Viewed s v → EachAccepted s (point_events zs) → Ends s v.total d
+    → Placing s s d v.total zs zs
+placing_start s v d zs w e g =
     record {
       full = s;
-      place = omega arith;
       long = refl;
       like = λ z l. refl;
       kept = λ p. absurd (omega arith);
@@ -139,12 +138,18 @@ placing_start s v d zs w e h g =
       left = refl;
     }
 
-module _ (s₀ s : List ℕ) (d : End) (t : ℕ) (zs : List ℤ) (k : ℕ) (g : Placing s₀ s d t zs k) (h : k + 1 < length zs) where
+module _ (s₀ s : List ℕ) (d : End) (t : ℕ) (zs rest : List ℤ) (g : Placing s₀ s d t zs rest) (block more : List ℤ) (cut : rest ≡ block ++ more) (two : length block ≡ 2) where
   abbrev here : Point
-  here = at (get_or zs k (pos 0)) (get_or zs (k + 1) (pos 0))
+  here = at (get_or block 0 (pos 0)) (get_or block 1 (pos 0))
+
+  front : pairs rest ≡ here ∷ pairs more
+  front = pairs_front rest block more cut two
+
+  first_free : (point_number g.full here ≡ 0) × EachAccepted (point_result g.full here) (point_events more)
+  first_free = subst (λ (ps : List Point). EachAccepted g.full (map point ps)) front g.free
 
   here_free : point_number g.full here ≡ 0
-  here_free = (first_free g.full zs k h g.free).0
+  here_free = first_free.0
 
   same_long : length s ≡ length g.full
   same_long = sym (length-sets s 8 (le32 0)) ∙ ap length (g.like (le32 0) refl) ∙ length-sets g.full 8 (le32 0)
@@ -157,51 +162,51 @@ module _ (s₀ s : List ℕ) (d : End) (t : ℕ) (zs : List ℤ) (k : ℕ) (g : 
         new_in = λ n. omega (arith, same_long, o.whole, new_room g.full here here_free t d g.ends n);
       }
 
-  pub placing_step : (s' : List ℕ) (d' : End) → s' ≡ placed s d here → d' ≡ next_end d → length s' ≡ length s → Placing s₀ s' d' (t + 1) zs (k + 2)
+  pub placing_step : (s' : List ℕ) (d' : End) → s' ≡ placed s d here → d' ≡ next_end d → length s' ≡ length s → Placing s₀ s' d' (t + 1) zs more
   placing_step s' d' e q l =
       let u : List ℕ = point_appended g.full here in
       let r : u ≡ point_result g.full here = point_done g.full here here_free in
       let o = total_over (placed g.full d here) u (t + 1) (placed_total g.full here here_free t d g.ends) in
       record {
         full = u;
-        place = omega arith;
         long = l ∙ g.long;
         like = λ z n. ap (λ (x : List ℕ). sets x 8 z) e
             ∙ apart-placed s g.full d here (last_positive g.full here here_free t d g.ends) g.like z n ∙ o.0 z n;
         kept = λ p. o.1;
         ends = subst (Ends u (t + 1)) (sym q) (ends_next g.full here here_free t d g.ends);
         fits = omega (arith, (point_free g.full here here_free).fits, g.ends.total_is);
-        free = subst (λ (x : List ℕ). EachAccepted x (point_events (drop (k + 2) zs))) (sym r) (first_free g.full zs k h g.free).1;
-        left = ap (λ (x : List ℕ). after x (point_events (drop (k + 2) zs))) r ∙ sym (ap (λ (ps : List Point). after g.full (map point ps)) (pairs-step zs k h)) ∙ g.left;
+        free = subst (λ (x : List ℕ). EachAccepted x (point_events more)) (sym r) first_free.1;
+        left = ap (λ (x : List ℕ). after x (point_events more)) r ∙ sym (ap (λ (ps : List Point). after g.full (map point ps)) front) ∙ g.left;
       }
 
-pub placing_end : (s₀ s s' : List ℕ) (d : End) (t : ℕ) (zs : List ℤ) (k : ℕ) → Placing s₀ s d t zs k → 2 ≤ length zs → length zs ≤ k + 1
+pub placing_end : (s₀ s s' : List ℕ) (d : End) (t : ℕ) (zs rest : List ℤ) → Placing s₀ s d t zs rest → 2 ≤ length zs → length rest < 2
     → s' ≡ sets s 8 (le32 t) → s' ≡ after s₀ (point_events zs)
-placing_end s₀ s s' d t zs k g two h e =
-    e ∙ g.like (le32 t) refl ∙ g.kept (omega arith) ∙ sym (ap (λ (ps : List Point). after g.full (map point ps)) (pairs_end zs k h)) ∙ g.left
+placing_end s₀ s s' d t zs rest g two h e =
+    e ∙ g.like (le32 t) refl ∙ g.kept (omega arith) ∙ sym (ap (λ (ps : List Point). after g.full (map point ps)) (pairs_end rest 0 (omega arith))) ∙ g.left
 
 pub placing_none : (s : List ℕ) (zs : List ℤ) → length zs < 2 → s ≡ after s (point_events zs)
 placing_none s zs h = sym (ap (λ (ps : List Point). after s (map point ps)) (pairs_end zs 0 (omega arith)))
 
 -- ---- the call
-pub points_kept : (s : List ℕ) (zs : List ℤ) (n : ℕ) → n ≡ points_number s zs → (n ≡ 0 → ⊥) → (n ≡ points_number s zs) × (s ≡ points_result s zs)
+pub points_refused : (s : List ℕ) (zs : List ℤ) (e : Refusal) → number e ≡ points_number s zs → (number e ≡ points_number s zs) × (s ≡ points_result s zs)
 unfolding points_result
-points_kept s zs n e h = (e, left_kept (points_number s zs) (after s (point_events zs)) s (λ z. h (e ∙ z)))
+points_refused s zs e h = (h, left_kept (points_number s zs) (after s (point_events zs)) s (λ z. some_number e (h ∙ z)))
 
-pub points-odd : (s : List ℕ) (zs : List ℤ) → (length zs % 2 ≡ 0 → ⊥) → (7 ≡ points_number s zs) × (s ≡ points_result s zs)
-points-odd s zs h = points_kept s zs 7 (unfold points_number in rw (ne_eqb (length zs % 2) 0 h)) (λ z. omega arith)
+pub points-odd : (s : List ℕ) (zs : List ℤ) (e : Refusal) → number e ≡ need (eqb (length zs % 2) 0) 7 0 → (number e ≡ points_number s zs) × (s ≡ points_result s zs)
+unfolding points_number
+points-odd s zs e h = points_refused s zs e (need_first (eqb (length zs % 2) 0) 7 _ e h)
+
+pub even_of : (n : ℕ) → 0 ≡ need (eqb (n % 2) 0) 7 0 → n % 2 ≡ 0
+even_of n h = eqb-true (n % 2) 0 (need-zero (eqb (n % 2) 0) 7 0 (omega arith) (sym h)).0
 
 module _ (s : List ℕ) (zs : List ℤ) (even : length zs % 2 ≡ 0) where
-  pub points_out : coordinates_in zs ≡ false → (8 ≡ points_number s zs) × (s ≡ points_result s zs)
-  points_out r =
-      points_kept s zs 8 (unfold points_number in rw (eq-eqb (length zs % 2) 0 even, sym (all_in zs even) ∙ r)) (λ z. omega arith)
-
-  pub points_refused : (n : ℕ) (i : Inspected) → coordinates_in zs ≡ true → Tells s i → i ≡ Refused n → (n ≡ points_number s zs) × (s ≡ points_result s zs)
+  pub points_out : (e : Refusal) → number e ≡ need (coordinates_in zs) 8 0 → (number e ≡ points_number s zs) × (s ≡ points_result s zs)
   unfolding points_number
-  points_refused n i r w q =
-      let t = told_refused s i n w q in
-      let rest : ℕ = need (leb (total s + length (pairs zs)) most_intervals) 16 (need (leb (length (pairs zs)) (spaces s)) 17 0) in
-      points_kept s zs n (rw (eq-eqb (length zs % 2) 0 even, sym (all_in zs even) ∙ r) (or_some n rest t.1 ∙ ap (λ (y : ℕ). or_next y rest) t.0)) t.1
+  points_out e h = points_refused s zs e (rw (eq-eqb (length zs % 2) 0 even, ← all_in zs even) (need_first (coordinates_in zs) 8 _ e h))
+
+  pub points_unread : (e : Refusal) → coordinates_in zs ≡ true → number e ≡ refusal s → (number e ≡ points_number s zs) × (s ≡ points_result s zs)
+  unfolding points_number
+  points_unread e r h = points_refused s zs e (rw (eq-eqb (length zs % 2) 0 even, sym (all_in zs even) ∙ r) (next_first (refusal s) _ e h))
 
   -- of an accepted store
   pub points_seen : (v : View) (room n : ℕ) → Viewed s v → coordinates_in zs ≡ true → room ≡ spaces s
@@ -210,6 +215,10 @@ module _ (s : List ℕ) (zs : List ℤ) (even : length zs % 2 ≡ 0) where
   points_seen v room n w r m e =
       let l : length (pairs zs) ≡ length zs / 2 = omega (arith, pairs-length zs, even) in
       rw (eq-eqb (length zs % 2) 0 even, sym (all_in zs even) ∙ r, w.accepted, ← w.total_is, ← m, l) e
+
+  pub points_over : (v : View) (e : Refusal) → Viewed s v → coordinates_in zs ≡ true → number e ≡ need (leb (v.total + length zs / 2) most_intervals) 16 0
+      → (number e ≡ points_number s zs) × (s ≡ points_result s zs)
+  points_over v e w r h = points_refused s zs e (points_seen v (spaces s) (number e) w r refl (need_first (leb (v.total + length zs / 2) most_intervals) 16 _ e h))
 
 pub points_free : (s : List ℕ) (zs : List ℤ) → points_number s zs ≡ 0 → EachAccepted s (point_events zs)
 points_free s zs e = let f = number_fits s zs e in none_refused s (pairs zs) f.1 f.2

@@ -3,6 +3,7 @@
 
 ghost use Rattle.std.specs.Prelude.{◌≡◌, true, [], ◌∷◌, ◌+◌, ◌*◌, ◌%◌, ◌≤◌, ◌<◌, length};
 ghost use Rattle.line.specs.Point.{at, coordinates_in};
+ghost use Rattle.line.specs.Refusal.{numbered};
 ghost use Rattle.octets.specs.Number.{le16};
 ghost use Rattle.store.specs.Layout.{rec, write, link_in, held, lost_record, point_bytes, point_record};
 ghost use Rattle.store.specs.Walk.{Viewed};
@@ -11,10 +12,10 @@ ghost use Rattle.track.specs.Calls.{after, EachAccepted};
 ghost use Rattle.track.specs.Points.{spaces, point_events, points_number, points_result};
 ghost use Rattle.track.specs.Placing.{Ends, Reach, placed, next_end};
 
-use line::{all_in_range, mode_fault, need, or_next};
-use octets::{clear, get8, pattern_of, put_all, put8, put16, put32};
+use line::{Refusal, all_in_range, mode_fault, need};
+use octets::{clear, get8, put_all, put8, put16, put32};
 pub use store::read;
-use store::{Inspected, MARK, TOTAL_AT, View, inspect, link_in, size_ok};
+use store::{MARK, TOTAL_AT, View, inspect, link_in, size_ok};
 
 const MOST_INTERVALS: usize = 4294967295;
 
@@ -30,15 +31,14 @@ fn put_head(store: &mut [u8], mode: u8, role: u8)
     put8(store, 5, role);
 }
 
-// Makes an empty store: 0, or the number that refuses it.
-pub fn make(store: &mut [u8], mode: u8, role: u8) -> u8
-    ensures { (result ≡ make_number store.old mode role) × (store.new ≡ make_result store.old mode role) }
+// Makes an empty store.
+pub fn make(store: &mut [u8], mode: u8, role: u8) -> Result<(), Refusal>
+    ensures { (numbered result ≡ make_number store.old mode role) × (store.new ≡ make_result store.old mode role) }
 {
-    let number = or_next(mode_fault(mode, role), need(size_ok(store), 11, 0));
-    if number == 0 {
-        put_head(store, mode, role);
-    }
-    number
+    mode_fault(mode, role)?;
+    need(size_ok(store), Refusal::StoreSize)?;
+    put_head(store, mode, role);
+    Ok(())
 }
 
 // ---- appending
@@ -49,25 +49,26 @@ fn lost_record(n: usize) -> [u8; 32]
 {
     let mut r = [0u8; 32];
     r[2] = 2;
-    r[4] = (n % 65536 % 256) as u8;
-    r[5] = (n % 65536 / 256 % 256) as u8;
-    r[6] = (n / 65536 % 256) as u8;
-    r[7] = (n / 65536 / 256 % 256) as u8;
+    put32(&mut r, 4, n);
     r
+}
+
+// The bytes of a point.
+fn point_bytes(re: i16, im: i16) -> [u8; 4]
+    ensures { result ≡ point_bytes (at re im) }
+{
+    let [a, b] = re.to_le_bytes();
+    let [c, d] = im.to_le_bytes();
+    [a, b, c, d]
 }
 
 fn point_record(re: i16, im: i16) -> [u8; 32]
     ensures { result ≡ point_record (at re im) }
 {
-    let a = pattern_of(re);
-    let b = pattern_of(im);
     let mut bytes = [0u8; 32];
     bytes[2] = 1;
     bytes[3] = 1;
-    bytes[4] = (a % 256) as u8;
-    bytes[5] = (a / 256 % 256) as u8;
-    bytes[6] = (b % 256) as u8;
-    bytes[7] = (b / 256 % 256) as u8;
+    bytes[4..8].copy_from_slice(&point_bytes(re, im));
     bytes
 }
 
@@ -77,11 +78,7 @@ fn put_record(store: &mut [u8], i: usize, r: [u8; 32])
     ensures { store.new ≡ write store.old i 0 r }
 {
     let at = 32 * i;
-    let mut k = 0;
-    while k < 32 {
-        store[at + k] = r[k];
-        k += 1;
-    }
+    store[at..at + 32].copy_from_slice(&r);
 }
 
 // The new record `r` at index `new`, and its link in the chain's last record.
@@ -98,14 +95,9 @@ fn grow(store: &mut [u8], i: usize, k: usize, re: i16, im: i16)
     requires { (32 * i + 32 ≤ length store.old) × (k < 7) }
     ensures { store.new ≡ write (write store.old i 3 ((k + 1) ∷ [])) i (4 + 4 * k) (point_bytes (at re im)) }
 {
-    let a = pattern_of(re);
-    let b = pattern_of(im);
     let at = 32 * i + (4 + 4 * k);
     store[32 * i + 3] = (k + 1) as u8;
-    store[at] = (a % 256) as u8;
-    store[at + 1] = (a / 256 % 256) as u8;
-    store[at + 2] = (b % 256) as u8;
-    store[at + 3] = (b / 256 % 256) as u8;
+    store[at..at + 4].copy_from_slice(&point_bytes(re, im));
 }
 
 // How many points record i holds.
@@ -137,36 +129,27 @@ fn room_for(s: &[u8], v: View) -> usize
     fresh
 }
 
-// A lost count of at least 1, at the end of the chain that `v` shows: 0, or the number that refuses it.
-fn link_lost(store: &mut [u8], v: View, n: usize) -> u8
+// A lost count of at least 1, at the end of the chain that `v` shows.
+fn link_lost(store: &mut [u8], v: View, n: usize) -> Result<(), Refusal>
     requires { Viewed store.old v × (1 ≤ n) × (n ≤ 4294967295) }
-    ensures { (result ≡ lost_number store.old n) × (store.new ≡ lost_result store.old n) }
+    ensures { (numbered result ≡ lost_number store.old n) × (store.new ≡ lost_result store.old n) }
 {
     let new = v.greatest + 1;
     let total = v.total + n;
-    let number = need(
-        total <= MOST_INTERVALS,
-        16,
-        need(new != store.len() / 32, 17, 0),
-    );
-    if number == 0 {
-        link(store, v.last, new, lost_record(n));
-        put32(store, TOTAL_AT, total);
-    }
-    number
+    need(total <= MOST_INTERVALS, Refusal::Intervals)?;
+    need(new != store.len() / 32, Refusal::StoreFull)?;
+    link(store, v.last, new, lost_record(n));
+    put32(store, TOTAL_AT, total);
+    Ok(())
 }
 
-// Appends a lost count: 0, or the number that refuses it.
-pub fn append_lost(store: &mut [u8], n: u32) -> u8
-    ensures { (result ≡ lost_number store.old n) × (store.new ≡ lost_result store.old n) }
+// Appends a lost count.
+pub fn append_lost(store: &mut [u8], n: u32) -> Result<(), Refusal>
+    ensures { (numbered result ≡ lost_number store.old n) × (store.new ≡ lost_result store.old n) }
 {
-    if n == 0 {
-        return 9;
-    }
-    match inspect(store) {
-        Inspected::Refused(number) => number,
-        Inspected::Accepted(v) => link_lost(store, v, n as usize),
-    }
+    need(1 <= n, Refusal::NoIntervals)?;
+    let v = inspect(store)?;
+    link_lost(store, v, n as usize)
 }
 
 // The end of a chain: its last and its greatest index, and how many points the last record holds, 7 where it has no room for
@@ -231,52 +214,39 @@ fn place_points(store: &mut [u8], v: View, points: &[i16])
     }
     let mut e = end_of(store, v);
     let mut total = v.total;
-    let mut k = 0;
-    while k + 1 < points.len() {
-        e = place_point(store, e, points[k], points[k + 1]);
+    for point in points.chunks_exact(2) {
+        e = place_point(store, e, point[0], point[1]);
         total += 1;
-        k += 2;
     }
     put32(store, TOTAL_AT, total);
 }
 
-// Points in range at the end of the chain that `v` shows, all or none: 0, or the number that refuses them.
-fn place_all(store: &mut [u8], v: View, points: &[i16]) -> u8
+// Points in range at the end of the chain that `v` shows, all or none.
+fn place_all(store: &mut [u8], v: View, points: &[i16]) -> Result<(), Refusal>
     requires { Viewed store.old v × (length points.now % 2 ≡ 0) × (coordinates_in points.now ≡ true) }
-    ensures { (result ≡ points_number store.old points.now) × (store.new ≡ points_result store.old points.now) }
+    ensures { (numbered result ≡ points_number store.old points.now) × (store.new ≡ points_result store.old points.now) }
 {
     let n = points.len() / 2;
-    let number = need(
-        v.total + n <= MOST_INTERVALS,
-        16,
-        need(n <= room_for(store, v), 17, 0),
-    );
-    if number == 0 {
-        place_points(store, v, points);
-    }
-    number
+    need(v.total + n <= MOST_INTERVALS, Refusal::Intervals)?;
+    need(n <= room_for(store, v), Refusal::StoreFull)?;
+    place_points(store, v, points);
+    Ok(())
 }
 
-// Appends points, re and im in turn, all or none: 0, or the lowest number that applies to them. The store is walked once, and
-// the number is decided before anything is written.
-pub fn append_points(store: &mut [u8], points: &[i16]) -> u8
-    ensures { (result ≡ points_number store.old points.now) × (store.new ≡ points_result store.old points.now) }
+// Appends points, re and im in turn, all or none. The store is walked once, and the refusal, the lowest that applies, is decided before
+// anything is written.
+pub fn append_points(store: &mut [u8], points: &[i16]) -> Result<(), Refusal>
+    ensures { (numbered result ≡ points_number store.old points.now) × (store.new ≡ points_result store.old points.now) }
 {
-    if points.len() % 2 != 0 {
-        return 7;
-    }
-    if !all_in_range(points) {
-        return 8;
-    }
-    match inspect(store) {
-        Inspected::Refused(number) => number,
-        Inspected::Accepted(v) => place_all(store, v, points),
-    }
+    need(points.len() % 2 == 0, Refusal::Lent)?;
+    need(all_in_range(points), Refusal::Coordinate)?;
+    let v = inspect(store)?;
+    place_all(store, v, points)
 }
 
-// Appends a point: 0, or the number that refuses it.
-pub fn append_point(store: &mut [u8], re: i16, im: i16) -> u8
-    ensures { (result ≡ point_number store.old (at re im)) × (store.new ≡ point_result store.old (at re im)) }
+// Appends a point.
+pub fn append_point(store: &mut [u8], re: i16, im: i16) -> Result<(), Refusal>
+    ensures { (numbered result ≡ point_number store.old (at re im)) × (store.new ≡ point_result store.old (at re im)) }
 {
     let points = [re, im];
     append_points(store, &points)

@@ -5,27 +5,28 @@ use mathlib.Core.List.{List, [], ◌∷◌, ◌++◌, append_assoc}
 use Prim.Native.Nat.{ℕ, zero, suc, ◌+◌, ◌*◌, ◌-◌, ◌≤◌, ◌<◌}
 use native.Mathlib.Omega.{arith}
 use native.Mathlib.Nat.{add-zero, sub-zero}
-use borrow.Author.Tests.{ltb-false, le-leb, lt-leb, leb-true}
+use borrow.Author.Tests.{ltb-false, le-leb, leb-true}
 use lib.Dec.{ltb, leb}
 use lib.ListN.{length, drop, length-append}
-use lib.Seq.{sets}
+use lib.Seq.{sets, length-sets}
 use Rattle.line.proofs.Tests.{by_test, and_split}
 use Rattle.line.proofs.Sets.{sets_then}
-use Rattle.line.proofs.RefusalLaws.{left_kept}
+use Rattle.line.proofs.RefusalLaws.{some_number, left_kept}
 use Rattle.line.specs.Table.{All}
 use Rattle.octets.specs.Number.{u16, u32, le16, le32, pattern, signed}
 use Rattle.store.specs.Chain.{sum_over, gather}
 use Rattle.store.specs.Layout.{Event, point, lost, count, rec, next, kind, held, is_points, points, points_ok, record_ok, events_of}
 use Rattle.store.specs.Store.{chain, events, refusal}
-use Rattle.store.specs.Walk.{Tells}
-use Rattle.store.specs.declared.Inspected.{Inspected}
-use Rattle.store.specs.declared.Inspected.TheVariants.{Refused as NotRead}
 use Rattle.store.proofs.Chains.{run_short, sum_append}
 use Rattle.store.proofs.Sounds.{accepted_sound}
-use Rattle.store.proofs.Views.{told_refused}
-use Rattle.store.proofs.Readings.{Along, along_start, along_step, left, left-start, left_step, left_end, points-next, of_points, of_lost}
+use Rattle.store.specs.Records.{records, events_in}
+use Rattle.store.proofs.RecordRuns.{records_long, records_events}
+use Rattle.store.proofs.Readings.{points-next, of_points, of_lost}
 use Rattle.capture.specs.Capture.{lost_mark, event_bytes, captured, size}
-use Rattle.track_capture.specs.declared.Captured.TheVariants.{Refused, Written}
+use Rattle.std.specs.Prelude.{Ok, Err}
+use Rattle.line.specs.declared.refusal.Refusal.{Refusal}
+use Rattle.line.specs.Refusal.{number, need}
+use Rattle.track.proofs.Answers.{need_first}
 use Rattle.track_capture.specs.Capturing.{longest, capture_number, capture_result, Gives, Wrote}
 use Rattle.track_capture.specs.Laws.{NoneLonger}
 
@@ -109,67 +110,64 @@ wrote_lost r out o₁ o₂ p n k e e₁ e₂ =
       behind = omega (arith, captured_long (events_of r), ap (sum_over size) q);
     }
 
--- ---- the chain
-pub record Copying (s out₀ out : List ℕ) (p k i : ℕ) : Type 0 where
-  pub along : Along s k i
-  pub most : p ≤ 1024 * k
-  pub written : sets out p (captured (left s k i)) ≡ sets out₀ 0 (captured (events s))
-  pub behind : p + length (captured (left s k i)) ≡ length (captured (events s))
+-- ---- the chain, where some of its records are left
+pub record Copying (s out₀ out : List ℕ) (p : ℕ) (rest : List (List ℕ)) : Type 0 where
+  pub long : length out ≡ length out₀
+  pub most : p + 1024 * length rest ≤ 2097152
+  pub written : sets out p (captured (events_in rest)) ≡ sets out₀ 0 (captured (events s))
+  pub behind : p + length (captured (events_in rest)) ≡ length (captured (events s))
 
-pub copying_start : (s out : List ℕ) (i : ℕ) → refusal s ≡ 0 → i ≡ next s 0 → Copying s out out 0 0 i
-copying_start s out i acc e =
-    let q = left-start s i e in
+pub copying_start : (s out : List ℕ) (rest : List (List ℕ)) → refusal s ≡ 0 → rest ≡ records s → Copying s out out 0 rest
+copying_start s out rest acc e =
+    let q : events_in rest ≡ events s = ap events_in e ∙ records_events s in
     record {
-      along = along_start s i acc e;
-      most = omega arith;
+      long = refl;
+      most = omega (arith, ap length e, records_long s acc);
       written = ap (λ (es : List Event). sets out 0 (captured es)) q;
       behind = omega (arith, ap (λ (es : List Event). length (captured es)) q);
     }
 
-pub copying_step : (s out₀ out out' : List ℕ) (p p' k i i' : ℕ) → Copying s out₀ out p k i → (i ≡ 0 → ⊥) → i' ≡ next s i
-    → Wrote out p (captured (events_of (rec s i))) out' p' → p' ≤ p + 1024 → Copying s out₀ out' p' (k + 1) i'
-copying_step s out₀ out out' p p' k i i' g nz ei w b =
-    let e = left_step s k i i' g.along nz ei in
+pub copying_step : (s out₀ out out' : List ℕ) (p p' : ℕ) (rest : List (List ℕ)) (r : List ℕ) (rest' : List (List ℕ)) → Copying s out₀ out p rest → rest ≡ r ∷ rest'
+    → Wrote out p (captured (events_of r)) out' p' → p' ≤ p + 1024 → Copying s out₀ out' p' rest'
+copying_step s out₀ out out' p p' rest r rest' g e w b =
     record {
-      along = along_step s k i i' g.along nz ei;
-      most = omega (arith, g.most);
-      written = captured-then out out' p p' (events_of (rec s i)) (left s (k + 1) i') w.written (omega (arith, w.behind, captured_long (events_of (rec s i))))
-          ∙ ap (λ (es : List Event). sets out p (captured es)) (sym e) ∙ g.written;
+      long = ap length w.written ∙ length-sets out p (captured (events_of r)) ∙ g.long;
+      most = omega (arith, g.most, ap length e);
+      written = captured-then out out' p p' (events_of r) (events_in rest') w.written (omega (arith, w.behind, captured_long (events_of r)))
+          ∙ ap (λ (rs : List (List ℕ)). sets out p (captured (events_in rs))) (sym e) ∙ g.written;
       behind = omega (
         arith,
         g.behind,
         w.behind,
-        ap (λ (es : List Event). length (captured es)) e,
-        ap length (captured_append (events_of (rec s i)) (left s (k + 1) i')),
-        length-append (captured (events_of (rec s i))) (captured (left s (k + 1) i')),
+        ap (λ (rs : List (List ℕ)). length (captured (events_in rs))) e,
+        ap length (captured_append (events_of r) (events_in rest')),
+        length-append (captured (events_of r)) (captured (events_in rest')),
       );
     }
 
-pub copying_end : (s out₀ out : List ℕ) (p k i : ℕ) → Copying s out₀ out p k i → i ≡ 0 → Wrote out₀ 0 (captured (events s)) out p
-copying_end s out₀ out p k i g e =
-    let q = left_end s k i e in
+pub copying_end : (s out₀ out : List ℕ) (p : ℕ) (rest : List (List ℕ)) → Copying s out₀ out p rest → rest ≡ [] → Wrote out₀ 0 (captured (events s)) out p
+copying_end s out₀ out p rest g e =
     record {
-      written = sym (ap (λ (es : List Event). sets out p (captured es)) q) ∙ g.written;
-      behind = omega (arith, g.behind, ap (λ (es : List Event). length (captured es)) q);
+      written = sym (ap (λ (rs : List (List ℕ)). sets out p (captured (events_in rs))) e) ∙ g.written;
+      behind = omega (arith, g.behind, ap (λ (rs : List (List ℕ)). length (captured (events_in rs))) e);
     }
 
 -- ---- the call
-refused_gives : (s out : List ℕ) (n : ℕ) → n ≡ capture_number s (length out) → (n ≡ 0 → ⊥) → Gives s out out (Refused n)
+refused_gives : (s out : List ℕ) (e : Refusal) → number e ≡ capture_number s (length out) → Gives s out out (Err e)
 unfolding capture_result
-refused_gives s out n e h =
-    let z : capture_number s (length out) ≡ 0 → ⊥ = λ q. h (e ∙ q) in
-    record { number = e; counts = left_kept _ _ _ z; bytes = left_kept _ _ _ z }
+refused_gives s out e h =
+    let z : capture_number s (length out) ≡ 0 → ⊥ = λ q. some_number e (h ∙ q) in
+    record { number = h; counts = left_kept _ _ _ z; bytes = left_kept _ _ _ z }
 
-pub short_gives : (s out : List ℕ) → length out < longest → Gives s out out (Refused 7)
-short_gives s out h = refused_gives s out 7 (unfold capture_number in rw (lt-leb longest (length out) h)) (λ z. omega arith)
-
-pub unread_gives : (s out : List ℕ) (n : ℕ) (i : Inspected) → longest ≤ length out → Tells s i → i ≡ NotRead n → Gives s out out (Refused n)
+pub short_gives : (s out : List ℕ) (e : Refusal) → number e ≡ need (leb longest (length out)) 7 0 → Gives s out out (Err e)
 unfolding capture_number
-unread_gives s out n i h w q =
-    let t = told_refused s i n w q in
-    refused_gives s out n (rw (le-leb longest (length out) h) t.0) t.1
+short_gives s out e h = refused_gives s out e (need_first (leb longest (length out)) 7 _ e h)
 
-pub written_gives : (s out out' : List ℕ) (n : ℕ) → longest ≤ length out → refusal s ≡ 0 → Wrote out 0 (captured (events s)) out' n → Gives s out out' (Written n)
+pub unread_gives : (s out : List ℕ) (e : Refusal) → longest ≤ length out → number e ≡ refusal s → Gives s out out (Err e)
+unfolding capture_number
+unread_gives s out e h n = refused_gives s out e (rw (le-leb longest (length out) h) n)
+
+pub written_gives : (s out out' : List ℕ) (n : ℕ) → longest ≤ length out → refusal s ≡ 0 → Wrote out 0 (captured (events s)) out' n → Gives s out out' (Ok n)
 unfolding capture_result
 written_gives s out out' n h acc w =
     let z : capture_number s (length out) ≡ 0 = unfold capture_number in rw (le-leb longest (length out) h, acc) in

@@ -6,29 +6,26 @@ use native.Mathlib.Omega.{arith}
 use lib.ListN.{length, get_or, take, drop}
 use lib.Seq.{take-take, length-take-le}
 use Rattle.line.specs.Table.{All}
-use Rattle.line.proofs.RefusalLaws.{left_done, left_kept}
+use Rattle.line.proofs.RefusalLaws.{some_number, left_done, left_kept}
 use Rattle.octets.specs.Number.{u16, u32}
 use Rattle.store.specs.Chain.{greatest}
 use Rattle.store.specs.Layout.{count, rec, link_in, next, record_ok, span_of, events_of}
 use Rattle.store.specs.Store.{chain, events, total, head_ok, refusal}
-use Rattle.store.specs.Walk.{Tells, Viewed}
+use Rattle.store.specs.Walk.{Viewed}
 use Rattle.store.specs.declared.View.{View}
-use Rattle.store.specs.declared.Inspected.{Inspected}
-use Rattle.store.specs.declared.Inspected.TheVariants.{Refused as NotRead}
+use Rattle.std.specs.Prelude.{Ok, Err}
+use Rattle.line.specs.declared.refusal.Refusal.{Refusal}
+use Rattle.line.specs.Refusal.{number}
 use Rattle.store.proofs.Chains.{Run, all_map, all_zip, below-greatest, gather-same, sum_same}
 use Rattle.store.proofs.Sounds.{Sound, sound_chain, sound_accepted, accepted_sound, sound_greatest}
-use Rattle.store.proofs.Views.{told_refused}
-use Rattle.track_capture.specs.declared.Kept.TheVariants.{Refused, Bytes}
 use Rattle.track_capture.specs.Keeping.{kept_bytes, Keeps}
 use Rattle.track_capture.specs.Laws.{SameTrack, Cut}
 
 -- ---- the call
-pub keeps_refused : (s : List ℕ) (i : Inspected) (n : ℕ) → Tells s i → i ≡ NotRead n → Keeps s (Refused n)
-keeps_refused s i n w q =
-    let t = told_refused s i n w q in
-    record { number = t.0; counts = left_kept (refusal s) (kept_bytes s ∷ []) [] (λ z. t.1 (t.0 ∙ z)) }
+pub keeps_refused : (s : List ℕ) (e : Refusal) → number e ≡ refusal s → Keeps s (Err e)
+keeps_refused s e h = record { number = h; counts = left_kept (refusal s) (kept_bytes s ∷ []) [] (λ z. some_number e (h ∙ z)) }
 
-pub keeps_bytes : (s : List ℕ) (v : View) (n : ℕ) → Viewed s v → n ≡ max 64 (32 * (v.greatest + 1)) → Keeps s (Bytes n)
+pub keeps_bytes : (s : List ℕ) (v : View) (n : ℕ) → Viewed s v → n ≡ max 64 (32 * (v.greatest + 1)) → Keeps s (Ok n)
 unfolding kept_bytes
 keeps_bytes s v n w e =
     record {

@@ -1,5 +1,6 @@
 -- The events of a capture appended one after the other. Assumes nothing.
 use mathlib.Core.Path.{◌≡◌, refl, sym, ap, ap₂, ◌∙◌, subst}
+use mathlib.Core.Bool.{true, false, false≢true}
 use mathlib.Core.List.{List, [], ◌∷◌, ◌++◌, map, map-append, append_assoc}
 use Prim.Native.Nat.{ℕ, zero, suc, ◌+◌, ◌*◌, ◌≤◌, ◌<◌}
 use native.Mathlib.Omega.{arith}
@@ -13,7 +14,7 @@ use Rattle.line.specs.declared.Point.{Point as Place}
 use Rattle.line.specs.Point.{at, pairs}
 use Rattle.line.proofs.PointLaws.{pairs-length, pairs_split}
 use Rattle.line.proofs.Tests.{by_test}
-use Rattle.line.proofs.RefusalLaws.{left_done, left_kept, or_some}
+use Rattle.line.proofs.RefusalLaws.{some_number, left_done, left_kept, or_some}
 use Rattle.octets.specs.Number.{u32}
 use Rattle.store.specs.Chain.{sum_over}
 use Rattle.store.proofs.Chains.{sum_append}
@@ -24,11 +25,14 @@ use Rattle.track.specs.Points.{point_events, points_number, points_result}
 use Rattle.track.proofs.Runs.{points_free}
 use Rattle.track.proofs.CallLaws.{refused_law, appends_read}
 use Rattle.capture.specs.Capture.{mark_number, first, size, events_from, events_in, told}
-use Rattle.capture.specs.declared.Next.{Next}
-use Rattle.capture.specs.declared.Next.TheVariants.{Point, Short}
-use Rattle.track_capture.specs.declared.Step.{Step}
+use Rattle.std.specs.Prelude.{Option, Some, None, Result, Ok, Err, is_ok, ⊤}
+use Rattle.std.specs.Result.{result_unwrap_or, result_err}
+use Rattle.line.specs.declared.refusal.Refusal.{Refusal}
+use Rattle.line.specs.Refusal.{number, numbered}
+use Rattle.capture.specs.declared.Event.{Event as Read}
+use Rattle.capture.specs.declared.Event.TheVariants.{Point}
 use Rattle.track_capture.specs.declared.Run.{Run}
-use Rattle.track_capture.specs.Appending.{accepted_of, number_of, Appends, Steps, Runs, Goes}
+use Rattle.track_capture.specs.Appending.{accepted_of, number_of, number_in, Appends, Steps, Runs, Goes}
 use Rattle.track_capture.specs.Laws.{AppendedRead}
 
 -- ---- the events of a capture
@@ -71,37 +75,32 @@ events-next bs e q =
     (enough (length bs) (length (drop (size e) bs)) (drop (size e) bs) (omega (arith, length-drop (size e) bs)) (omega arith)))
 
 -- ---- one event
--- a number, and the bytes that its event uses, are an event's step
-pub one_step : (s : List ℕ) (e : Event) (n : ℕ) (s' : List ℕ) (r : Step) → n ≡ call_number s e → s' ≡ call_result s e → r.number ≡ n → (n ≡ 0 → r.size ≡ size e) → ((n ≡ 0 → ⊥) → r.size ≡ 0)
-    → Steps s (e ∷ []) s' r
-one_step s e n s' r en es er done none =
-    by_test (eqb n 0)
-    (λ t. let z : n ≡ 0 = eqb-true n 0 t in
-    let c : call_number s e ≡ 0 = sym en ∙ z in
-    record {
-      number = er ∙ z ∙ rw c;
-      store = es ∙ rw c;
-      used = done z ∙ rw c (sym (add-zero (size e)));
-    })
-    (λ t. let h : n ≡ 0 → ⊥ = eqb-false n 0 t in
-    let c : call_number s e ≡ 0 → ⊥ = λ q. h (en ∙ q) in
+-- one that is taken, and one that is refused
+step_taken : (s : List ℕ) (e : Event) (s' : List ℕ) → 0 ≡ call_number s e → s' ≡ call_result s e → Steps s (e ∷ []) s' (Ok (size e))
+step_taken s e s' n t =
+    let c : call_number s e ≡ 0 = sym n in
+    record { number = rw c; store = t ∙ rw c; used = rw c (sym (add-zero (size e))) }
+
+step_refused : (s : List ℕ) (e : Event) (s' : List ℕ) (f : Refusal) → number f ≡ call_number s e → s' ≡ call_result s e → Steps s (e ∷ []) s' (Err f)
+step_refused s e s' f n t =
+    let c : call_number s e ≡ 0 → ⊥ = λ q. some_number f (n ∙ q) in
     let k : accepted_of s (e ∷ []) ≡ [] = sym (left_kept (call_number s e) (e ∷ []) [] c) in
-    record {
-      number = er ∙ en ∙ or_some (call_number s e) 0 c;
-      store = es ∙ refused_law s e c ∙ rw k;
-      used = none h ∙ rw k;
-    })
+    record { number = n ∙ or_some (call_number s e) 0 c; store = t ∙ refused_law s e c ∙ rw k; used = rw k }
 
 -- by what stands at the place
-module _ (s bs : List ℕ) (x : Next) (s' : List ℕ) (r : Step) (told_is : told x ≡ first bs) where
-  pub next-step : (y : Next) (e : Event) (n : ℕ) → x ≡ y → told y ≡ e ∷ [] → (n ≡ call_number s e) × (s' ≡ call_result s e)
-      → (r.number ≡ n) × ((n ≡ 0 → r.size ≡ size e) × ((n ≡ 0 → ⊥) → r.size ≡ 0)) → Steps s (first bs) s' r
-  next-step y e n q d c o =
-      subst (λ (es : List Event). Steps s es s' r) (sym d ∙ sym (ap told q) ∙ told_is) (one_step s e n s' r c.0 c.1 o.0 o.1.0 o.1.1)
+module _ (s bs : List ℕ) (x : Option Read) (s' : List ℕ) (told_is : told x ≡ first bs) where
+  module _ (y : Option Read) (e : Event) (q : x ≡ y) (d : told y ≡ e ∷ []) where
+    at_place : (r : Result ℕ Refusal) → Steps s (e ∷ []) s' r → Steps s (first bs) s' r
+    at_place r w = subst (λ (es : List Event). Steps s es s' r) (sym d ∙ sym (ap told q) ∙ told_is) w
 
-  pub short_step : x ≡ Short → s' ≡ s → r.number ≡ 0 → r.size ≡ 0 → Steps s (first bs) s' r
-  short_step q same n z =
-      subst (λ (es : List Event). Steps s es s' r) (sym (ap told q) ∙ told_is) (record { number = n; store = same; used = z })
+    pub taken-step : (0 ≡ call_number s e) × (s' ≡ call_result s e) → Steps s (first bs) s' (Ok (size e))
+    taken-step c = at_place (Ok (size e)) (step_taken s e s' c.0 c.1)
+
+    pub refused-step : (f : Refusal) → (number f ≡ call_number s e) × (s' ≡ call_result s e) → Steps s (first bs) s' (Err f)
+    refused-step f c = at_place (Err f) (step_refused s e s' f c.0 c.1)
+
+  pub short_step : x ≡ None → s' ≡ s → Steps s (first bs) s' (Ok 0)
+  short_step q same = subst (λ (es : List Event). Steps s es s' (Ok 0)) (sym (ap told q) ∙ told_is) (record { number = refl; store = same; used = refl })
 
 -- ---- the loop
 -- nothing, and one way after the other
@@ -156,63 +155,76 @@ goes_through s s' input from to es a t h q b =
       bytes = omega (arith, ap (sum_over size) k, sum_append size es (accepted_of s' fs));
     }
 
-module _ (s₀ s s' input : List ℕ) (at taken : ℕ) (r : Step) (g : Goes s₀ s input 0 at taken) (w : Steps s (first (drop at input)) s' r) where
+err_number : (r : Result ℕ Refusal) → number_in (result_err r) ≡ numbered r
+err_number (Ok n) = refl
+err_number (Err e) = refl
+
+module _ (s₀ s s' input : List ℕ) (at taken : ℕ) (r : Result ℕ Refusal) (g : Goes s₀ s input 0 at taken) (w : Steps s (first (drop at input)) s' r) where
   -- nothing more is taken
-  pub goes_end : r.size ≡ 0 → Appends s₀ (events_in input) s' (record { taken = taken; used = at; number = r.number })
+  goes_end : result_unwrap_or r 0 ≡ 0 → Appends s₀ (events_in input) s' (record { taken = taken; used = at; refused = result_err r })
   goes_end z =
       by_first (drop at input)
       (λ q. ends (events_none (drop at input) q) (rw q at w))
       (λ e q l f. refused e (rw q at w) l (events-next (drop at input) e q))
     where
       -- with es left, of which none is accepted
-      ends_with : (es : List Event) → events_in (drop at input) ≡ es → accepted_of s es ≡ [] → r.number ≡ number_of s es → s' ≡ s
-          → Appends s₀ (events_in input) s' (record { taken = taken; used = at; number = r.number })
+      ends_with : (es : List Event) → events_in (drop at input) ≡ es → accepted_of s es ≡ [] → numbered r ≡ number_of s es → s' ≡ s
+          → Appends s₀ (events_in input) s' (record { taken = taken; used = at; refused = result_err r })
       ends_with es q k n t =
           let y : accepted_of s (events_in (drop at input)) ≡ [] = rw q k in
           record {
-            number = n ∙ ap (number_of s) (sym q) ∙ g.number;
+            number = err_number r ∙ n ∙ ap (number_of s) (sym q) ∙ g.number;
             store = t ∙ sym (ap (after s) y) ∙ g.store;
             taken = omega (arith, g.count, ap length y);
             used = omega (arith, g.bytes, ap (sum_over size) y);
           }
 
-      ends : events_in (drop at input) ≡ [] → Steps s [] s' r → Appends s₀ (events_in input) s' (record { taken = taken; used = at; number = r.number })
+      ends : events_in (drop at input) ≡ [] → Steps s [] s' r → Appends s₀ (events_in input) s' (record { taken = taken; used = at; refused = result_err r })
       ends q v = ends_with [] q refl v.number v.store
 
       refused : (e : Event) → Steps s (e ∷ []) s' r → 4 ≤ size e → events_in (drop at input) ≡ e ∷ events_in (drop (size e) (drop at input))
-          → Appends s₀ (events_in input) s' (record { taken = taken; used = at; number = r.number })
+          → Appends s₀ (events_in input) s' (record { taken = taken; used = at; refused = result_err r })
       refused e v l q =
           let c : call_number s e ≡ 0 → ⊥ =
-          λ y. let u : r.size ≡ size e + 0 = v.used ∙ rw y in omega arith in
+          λ y. let u : result_unwrap_or r 0 ≡ size e + 0 = v.used ∙ rw y in omega arith in
           let k : accepted_of s (e ∷ []) ≡ [] = sym (left_kept (call_number s e) (e ∷ []) [] c) in
           ends_with (e ∷ events_in (drop (size e) (drop at input))) q
           (sym (left_kept (call_number s e) (e ∷ accepted_of (call_result s e) (events_in (drop (size e) (drop at input)))) [] c))
           (v.number ∙ sym (or_some (call_number s e) 0 c) ∙ or_some (call_number s e) (number_of (call_result s e) (events_in (drop (size e) (drop at input)))) c)
           (v.store ∙ ap (after s) k)
 
+  -- by the size and the refusal that the code makes of a step
+  pub goes_end_by : (k : ℕ) (x : Option Refusal) → k ≡ result_unwrap_or r 0 → x ≡ result_err r → k ≡ 0
+      → Appends s₀ (events_in input) s' (record { taken = taken; used = at; refused = x })
+  goes_end_by k x q e z = rw e (goes_end (sym q ∙ z))
+
 -- one more
-step_goes : (s s' input : List ℕ) (at : ℕ) (r : Step) → Steps s (first (drop at input)) s' r → (r.size ≡ 0 → ⊥) → Goes s s' input at (at + r.size) 1
+step_goes : (s s' input : List ℕ) (at : ℕ) (r : Result ℕ Refusal) → Steps s (first (drop at input)) s' r → (result_unwrap_or r 0 ≡ 0 → ⊥) → Goes s s' input at (at + result_unwrap_or r 0) 1
 step_goes s s' input at r w nz =
     by_first (drop at input)
     (λ q. absurd (nz (w.used ∙ rw q)))
     (λ e q l f. one e (rw q at w) (omega (arith, length-drop at input)) (events-next (drop at input) e q))
   where
     one : (e : Event) → Steps s (e ∷ []) s' r → at + size e ≤ length input → events_in (drop at input) ≡ e ∷ events_in (drop (size e) (drop at input))
-        → Goes s s' input at (at + r.size) 1
+        → Goes s s' input at (at + result_unwrap_or r 0) 1
     one e v f q =
         by_test (eqb (call_number s e) 0)
         (λ t. let c : call_number s e ≡ 0 = eqb-true (call_number s e) 0 t in
-        let u : r.size ≡ size e + 0 = v.used ∙ rw c in
-        let k : at + size e ≡ at + r.size = omega arith in
-        goes_through s s' input at (at + r.size) (e ∷ []) (c, tt) (v.store ∙ rw c) (omega arith)
+        let u : result_unwrap_or r 0 ≡ size e + 0 = v.used ∙ rw c in
+        let k : at + size e ≡ at + result_unwrap_or r 0 = omega arith in
+        goes_through s s' input at (at + result_unwrap_or r 0) (e ∷ []) (c, tt) (v.store ∙ rw c) (omega arith)
         (q ∙ ap (λ (bs : List ℕ). e ∷ events_in bs) (drop-drop (size e) at input ∙ ap (λ (m : ℕ). drop m input) k)) (omega arith))
         (λ t. absurd (nz (v.used ∙ ap (sum_over size) (sym (left_kept (call_number s e) (e ∷ []) [] (eqb-false (call_number s e) 0 t))))))
 
-pub goes_on : (s₀ s s' input : List ℕ) (at taken : ℕ) (r : Step) → Goes s₀ s input 0 at taken → Steps s (first (drop at input)) s' r → (r.size ≡ 0 → ⊥)
-    → (at < at + r.size) × Goes s₀ s' input 0 (at + r.size) (taken + 1)
+goes_on : (s₀ s s' input : List ℕ) (at taken : ℕ) (r : Result ℕ Refusal) → Goes s₀ s input 0 at taken → Steps s (first (drop at input)) s' r → (result_unwrap_or r 0 ≡ 0 → ⊥)
+    → (at < at + result_unwrap_or r 0) × Goes s₀ s' input 0 (at + result_unwrap_or r 0) (taken + 1)
 goes_on s₀ s s' input at taken r g w nz =
     let h = step_goes s s' input at r w nz in
-    (omega (arith, h.few), goes_then s₀ s s' input 0 at (at + r.size) taken 1 g h)
+    (omega (arith, h.few), goes_then s₀ s s' input 0 at (at + result_unwrap_or r 0) taken 1 g h)
+
+pub goes_on_by : (s₀ s s' input : List ℕ) (at taken : ℕ) (r : Result ℕ Refusal) (k : ℕ) → k ≡ result_unwrap_or r 0 → Goes s₀ s input 0 at taken → Steps s (first (drop at input)) s' r
+    → (k ≡ 0 → ⊥) → (at < at + k) × Goes s₀ s' input 0 (at + k) (taken + 1)
+goes_on_by s₀ s s' input at taken r k q g w nz = rw q (goes_on s₀ s s' input at taken r g w (λ z. nz (q ∙ z)))
 
 -- ---- points in a row
 take_two : {A : Type 0} (zs : List A) (j : ℕ) (x y : A) → suc j < length zs → take (suc (suc j)) (set (set zs j x) (suc j) y) ≡ take j zs ++ (x ∷ y ∷ [])
@@ -238,8 +250,8 @@ run_start input at zs h l =
       events = ap (λ (k : ℕ). events_in (drop k input)) (let e : at ≡ at + 4 * 0 = omega arith in e);
     }
 
-pub run_step : (input : List ℕ) (from k : ℕ) (zs zs' : List ℤ) (x : Next) (re im : ℤ) → Runs input from (record { numbers = zs; count = k }) → k < 64
-    → told x ≡ first (drop (from + 4 * k) input) → x ≡ Point re im → zs' ≡ set (set zs (2 * k) re) (2 * k + 1) im
+pub run_step : (input : List ℕ) (from k : ℕ) (zs zs' : List ℤ) (x : Option Read) (re im : ℤ) → Runs input from (record { numbers = zs; count = k }) → k < 64
+    → told x ≡ first (drop (from + 4 * k) input) → x ≡ Some (Point re im) → zs' ≡ set (set zs (2 * k) re) (2 * k + 1) im
     → Runs input from (record { numbers = zs'; count = k + 1 })
 run_step input from k zs zs' x re im g h t q e =
     let bs : List ℕ = drop (from + 4 * k) input in
@@ -266,25 +278,33 @@ points-size : (ps : List Place) → sum_over size (map point ps) ≡ 4 * length 
 points-size [] = refl
 points-size (p ∷ ps) = omega (arith, points-size ps)
 
+ok_number : (b : Result ⊤ Refusal) → is_ok b ≡ true → numbered b ≡ 0
+ok_number (Ok u) h = refl
+ok_number (Err e) h = absurd (false≢true h)
+
+err_some : (b : Result ⊤ Refusal) → is_ok b ≡ false → numbered b ≡ 0 → ⊥
+err_some (Ok u) h z = absurd (false≢true (sym h))
+err_some (Err e) h z = some_number e z
+
 -- the store takes them all, or is as it was
-module _ (s s' input : List ℕ) (from : ℕ) (r : Run) (n : ℕ) (g : Runs input from r) (e : n ≡ points_number s (take (2 * r.count) r.numbers))
+module _ (s s' input : List ℕ) (from : ℕ) (r : Run) (b : Result ⊤ Refusal) (g : Runs input from r) (e : numbered b ≡ points_number s (take (2 * r.count) r.numbers))
     (t : s' ≡ points_result s (take (2 * r.count) r.numbers)) where
-  pub run_goes : n ≡ 0 → Goes s s' input from (from + 4 * r.count) r.count
+  pub run_goes : is_ok b ≡ true → Goes s s' input from (from + 4 * r.count) r.count
   unfolding points_result
   run_goes z =
       let zs : List ℤ = take (2 * r.count) r.numbers in
       let es : List Event = point_events zs in
-      let y : points_number s zs ≡ 0 = sym e ∙ z in
+      let y : points_number s zs ≡ 0 = sym e ∙ ok_number b z in
       let l : length (pairs zs) ≡ r.count = omega (arith, pairs-length zs, length-take-le (2 * r.count) r.numbers (omega (arith, g.long, g.few))) in
       let k : length es ≡ r.count = length-map (pairs zs) point ∙ l in
       subst (Goes s s' input from (from + 4 * r.count)) k
       (goes_through s s' input from (from + 4 * r.count) es (points_free s zs y) (t ∙ sym (left_done (points_number s zs) (after s es) s y)) g.within g.events (omega (arith, points-size (pairs zs))))
 
-  pub run_refused : (n ≡ 0 → ⊥) → Goes s s' input from (from + 4 * 0) 0
+  pub run_refused : is_ok b ≡ false → Goes s s' input from (from + 4 * 0) 0
   unfolding points_result
   run_refused h =
       let zs : List ℤ = take (2 * r.count) r.numbers in
-      goes_none s s' input from (from + 4 * 0) (omega (arith, g.within)) (t ∙ sym (left_kept (points_number s zs) (after s (point_events zs)) s (λ z. h (e ∙ z)))) (omega arith)
+      goes_none s s' input from (from + 4 * 0) (omega (arith, g.within)) (t ∙ sym (left_kept (points_number s zs) (after s (point_events zs)) s (λ z. err_some b h (e ∙ z)))) (omega arith)
 
 -- ---- what the store holds then
 taken_all : (s : List ℕ) (es : List Event) → taken s (accepted_of s es) ≡ accepted_of s es

@@ -1,12 +1,13 @@
 -- The command `store`: a capture's events appended to a track store one after the other, up to the first append that is refused.
-use Rattle.std.specs.Prelude.{◌≡◌, List, [], ◌∷◌, ◌++◌, ℕ, ◌+◌, ◌*◌, ◌≤◌, length, take, drop}
-use Rattle.line.specs.Refusal.{or_next, accepted}
+use Rattle.std.specs.Prelude.{◌≡◌, Option, Some, None, Result, List, [], ◌∷◌, ◌++◌, ℕ, ◌+◌, ◌*◌, ◌≤◌, length, take, drop}
+use Rattle.std.specs.Result.{result_unwrap_or}
+use Rattle.line.specs.declared.refusal.Refusal.{Refusal}
+use Rattle.line.specs.Refusal.{number, numbered, or_next, accepted}
 use Rattle.store.specs.Chain.{sum_over}
 use Rattle.store.specs.Layout.{Event}
 use Rattle.track.specs.Calls.{call_number, call_result, after}
 use Rattle.track.specs.Points.{point_events}
 use Rattle.capture.specs.Capture.{size, events_in}
-use Rattle.track_capture.specs.declared.Step.{Step}
 use Rattle.track_capture.specs.declared.Run.{Run}
 use Rattle.track_capture.specs.declared.Appended.{Appended}
 
@@ -20,9 +21,14 @@ abbrev pub number_of : List ℕ → List Event → ℕ
 number_of s [] = 0
 number_of s (e ∷ es) = or_next (call_number s e) (number_of (call_result s e) es)
 
+-- the number of what refused, 0 where nothing did
+abbrev pub number_in : Option Refusal → ℕ
+number_in None = 0
+number_in (Some e) = number e
+
 -- what appending the events es to the store s leaves and answers
 pub record Appends (s : List ℕ) (es : List Event) (s' : List ℕ) (r : Appended) : Type 0 where
-  pub number : r.number ≡ number_of s es
+  pub number : number_in r.refused ≡ number_of s es
   pub store : s' ≡ after s (accepted_of s es)
   pub taken : r.taken ≡ length (accepted_of s es)
   pub used : r.used ≡ sum_over size (accepted_of s es)
@@ -30,10 +36,10 @@ pub record Appends (s : List ℕ) (es : List Event) (s' : List ℕ) (r : Appende
 -- THE CONTRACTS OF PRIVATE FUNCTIONS
 
 -- the same of at most one event
-pub record Steps (s : List ℕ) (es : List Event) (s' : List ℕ) (r : Step) : Type 0 where
-  pub number : r.number ≡ number_of s es
+pub record Steps (s : List ℕ) (es : List Event) (s' : List ℕ) (r : Result ℕ Refusal) : Type 0 where
+  pub number : numbered r ≡ number_of s es
   pub store : s' ≡ after s (accepted_of s es)
-  pub used : r.size ≡ sum_over size (accepted_of s es)
+  pub used : result_unwrap_or r 0 ≡ sum_over size (accepted_of s es)
 
 -- r are points that a capture goes on with at byte `at`
 pub record Runs (input : List ℕ) (at : ℕ) (r : Run) : Type 0 where

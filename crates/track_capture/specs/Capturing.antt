@@ -1,11 +1,10 @@
 -- The command `points`: the capture of a store's events, at the start of lent bytes.
-use Rattle.std.specs.Prelude.{◌≡◌, List, [], ◌∷◌, ℕ, ◌+◌, leb, length}
+use Rattle.std.specs.Prelude.{◌≡◌, Result, Ok, Err, List, [], ◌∷◌, ℕ, ◌+◌, leb, length}
 use Rattle.std.proofs.lemmas.List.Edits.{sets}
-use Rattle.line.specs.Refusal.{need, accepted}
+use Rattle.line.specs.declared.refusal.Refusal.{Refusal}
+use Rattle.line.specs.Refusal.{numbered, need, accepted}
 use Rattle.store.specs.Store.{events, refusal}
 use Rattle.capture.specs.Capture.{captured}
-use Rattle.track_capture.specs.declared.Captured.{Captured}
-use Rattle.track_capture.specs.declared.Captured.TheVariants.{Refused, Written}
 
 -- bytes that hold the capture of any store: 28 for each of 2,047 records (`NoneLonger` of specs/Laws). The lent bytes are judged by it, so
 -- that a caller knows before the call what to lend.
@@ -24,17 +23,13 @@ capture_counts s room = accepted (capture_number s room) (length (captured (even
 unfoldable pub capture_result : List ℕ → List ℕ → List ℕ
 capture_result s out = accepted (capture_number s (length out)) (sets out 0 (captured (events s))) out
 
--- what each case of the answer says: a refusal's number, 0 for none; and how many bytes were written, where it is not refused
-abbrev pub number_in : Captured → ℕ
-number_in (Refused n) = n
-number_in (Written n) = 0
+-- how many bytes were written, where the call is not refused
+abbrev pub counts_in : Result ℕ Refusal → List ℕ
+counts_in (Err e) = []
+counts_in (Ok n) = n ∷ []
 
-abbrev pub counts_in : Captured → List ℕ
-counts_in (Refused n) = []
-counts_in (Written n) = n ∷ []
-
-pub record Gives (s out out' : List ℕ) (r : Captured) : Type 0 where
-  pub number : number_in r ≡ capture_number s (length out)
+pub record Gives (s out out' : List ℕ) (r : Result ℕ Refusal) : Type 0 where
+  pub number : numbered r ≡ capture_number s (length out)
   pub counts : counts_in r ≡ capture_counts s (length out)
   pub bytes : out' ≡ capture_result s out
 

@@ -45,7 +45,8 @@ fn code_group(mode: u8, role: u8, c: Coder, plain: u8) -> Coder
     }
 }
 
-// The reversals of V.27 ter, and the changes after them.
+// The reversals of V.27 ter, and the changes after them. Two functions, since one with both numbers as const parameters would lose their
+// names at each call and be no plainer.
 fn reversal_count(choice: u32) -> usize
     ensures value { result ≡ reversals choice }
     ensures upper_bound { result ≤ 50 }

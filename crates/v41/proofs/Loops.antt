@@ -1,26 +1,21 @@
 -- What the loops ask, as laws on lists. Assumes nothing.
-use Prim.Native.Nat.{ℕ, ◌+◌, ◌*◌, ◌-◌, ◌^◌, ◌≤◌, ◌<◌}
-use mathlib.Core.Path.{◌≡◌, sym, ap, ap₂, ◌∙◌, subst}
+use Prim.Native.Nat.{ℕ, ◌+◌, ◌-◌, ◌%◌, ◌^◌, ◌≤◌, ◌<◌}
+use mathlib.Core.Path.{◌≡◌, refl, sym, ap, ap₂, ◌∙◌, subst}
 use mathlib.Core.Bool.{and-true}
 use mathlib.Core.List.{List, [], ◌∷◌, ◌++◌}
-use native.Mathlib.Numerals.{add-one}
 use native.Mathlib.Omega.{arith}
-use borrow.Author.Rules.{part_to_end}
 use lib.Dec.{T}
-use lib.ListN.{length, get_or, take, drop, drop_of_length-le, length-drop, take-append-drop}
+use lib.ListN.{length, get_or, take, drop, length-append}
+use Rattle.std.proofs.lemmas.List.{take_at, drop_at}
 use lib.Pow.{pow_mono}
-use lib.Seq.{drop-cons, drop-drop, take-suc, take_all, length-take-le}
+use lib.Seq.{drop-drop, take_all, length-take-le}
 use Rattle.line.specs.Table.{every}
 use Rattle.line.proofs.TableLaws.{every_take, every_drop, every-placed}
 use Rattle.scrambler.specs.Bits.{is_bit, bits, value}
 use Rattle.scrambler.proofs.BitLaws.{value_small, bits-value}
-use Rattle.v41.specs.Register.{next, register}
-use Rattle.v41.proofs.RegisterLaws.{value_snoc, register_append}
+use Rattle.v41.specs.Register.{register}
+use Rattle.v41.proofs.RegisterLaws.{register_append}
 use Rattle.v41.proofs.Theorems.{are_bits}
-
--- one element less to come
-drop_more : (l : List ℕ) (i : ℕ) → i < length l → drop i l ≡ get_or l i 0 ∷ drop (i + 1) l
-drop_more l i h = drop-cons l i 0 h ∙ ap (λ (k : ℕ). get_or l i 0 ∷ drop k l) (sym (add-one i))
 
 -- a byte of bits
 pub bit_at : (l : List ℕ) (i : ℕ) → i < length l → T (every is_bit l) → get_or l i 0 < 2
@@ -30,11 +25,6 @@ bit_at l i h t = (are_bits (get_or l i 0 ∷ []) (one (get_or l i 0) (every-plac
     one b t = subst T (sym (and-true (is_bit b))) t
 
 -- `number_of`
-pub number_go : (l : List ℕ) (k v : ℕ) → k < length l → v ≡ value (take k l) → 2 * v + get_or l k 0 ≡ value (take (k + 1) l)
-number_go l k v h e =
-    ap (λ (n : ℕ). 2 * n + get_or l k 0) e ∙ sym (value_snoc (take k l) (get_or l k 0)) ∙ ap value (sym (take-suc l k 0 h))
-    ∙ ap (λ (n : ℕ). value (take n l)) (sym (add-one k))
-
 pub number_small : (l : List ℕ) (k : ℕ) → k ≤ length l → length l ≤ 8 → T (every is_bit l) → value (take k l) < 256
 number_small l k h b t =
     let v : value (take k l) < 2 ^ length (take k l) = value_small (take k l) (every_take is_bit k l t) in
@@ -44,37 +34,38 @@ number_small l k h b t =
 pub number_end : (l : List ℕ) (k v : ℕ) → length l ≤ k → v ≡ value (take k l) → v ≡ value l
 number_end l k v h e = e ∙ ap value (take_all k l h)
 
--- `divide_bits`
-pub register_go : (l : List ℕ) (i r q all : ℕ) → i < length l → q ≡ next r (get_or l i 0) → register r (drop i l) ≡ all → register q (drop (i + 1) l) ≡ all
-register_go l i r q all h n e = ap (λ (k : ℕ). register k (drop (i + 1) l)) n ∙ sym (ap (register r) (drop_more l i h)) ∙ e
+-- `divide`: what is left of a list of which eights were taken from the front
+pub record Eights (l rest : List ℕ) : Type 0 where
+  pub within : length rest ≤ length l
+  pub is : rest ≡ drop (length l - length rest) l
+  pub same : length rest % 8 ≡ length l % 8
 
-pub register_end : (l : List ℕ) (i r all : ℕ) → length l ≤ i → register r (drop i l) ≡ all → r ≡ all
-register_end l i r all h e = sym (ap (register r) (drop_of_length-le l h)) ∙ e
+pub eights_begun : (l : List ℕ) → Eights l l
+eights_begun l = record { within = omega arith; is = sym (ap (λ (k : ℕ). drop k l) (let z : length l - length l ≡ 0 = omega arith in z)); same = refl }
 
--- `divide`: the next eight bits, and the register after them
-module _ (l : List ℕ) (i : ℕ) (t : T (every is_bit l)) where
-  pub eight_part : 8 ≤ length l - i → (length (take (i + 8 - i) (drop i l)) ≤ 8) × T (every is_bit (take (i + 8 - i) (drop i l)))
-  eight_part h =
-      (omega (arith, length-take-le (i + 8 - i) (drop i l) (omega (arith, length-drop i l))), every_take is_bit (i + 8 - i) (drop i l) (every_drop is_bit i l t))
+-- the next eight are bits, too
+pub eight_bits : (l rest x more : List ℕ) → T (every is_bit l) → Eights l rest → rest ≡ x ++ more → T (every is_bit x)
+eight_bits l rest x more t e p =
+    let d : T (every is_bit rest) = subst (λ (s : List ℕ). T (every is_bit s)) (sym e.is) (every_drop is_bit (length l - length rest) l t) in
+    subst (λ (s : List ℕ). T (every is_bit s)) (ap (take (length x)) p ∙ take_at x more (length x) refl) (every_take is_bit (length x) rest d)
 
-  pub eight_go : (r q v all : ℕ) → 8 ≤ length l - i → v ≡ value (take (i + 8 - i) (drop i l)) → q ≡ register r (bits 8 v) → register r (drop i l) ≡ all → register q (drop (i + 8) l) ≡ all
-  eight_go r q v all h e n a =
-      ap (λ (k : ℕ). register k (drop (i + 8) l)) (n ∙ ap (register r) part)
-      ∙ sym (register_append (take (i + 8 - i) (drop i l)) (drop (i + 8) l) r)
-      ∙ ap (register r)
-      (ap (λ (b : List ℕ). take (i + 8 - i) (drop i l) ++ b)
-      (sym (drop-drop (i + 8 - i) i l ∙ ap (λ (k : ℕ). drop k l) (let z : i + (i + 8 - i) ≡ i + 8 = omega arith in z)))
-      ∙ take-append-drop (i + 8 - i) (drop i l))
-      ∙ a
-    where
-      len : length (take (i + 8 - i) (drop i l)) ≡ 8
-      len = length-take-le (i + 8 - i) (drop i l) (omega (arith, length-drop i l)) ∙ (let z : i + 8 - i ≡ 8 = omega arith in z)
+pub eights_more : (l rest x more : List ℕ) → Eights l rest → rest ≡ x ++ more → length x ≡ 8 → Eights l more
+eights_more l rest x more e p n =
+    let long : length rest ≡ 8 + length more = ap length p ∙ length-append x more ∙ ap (λ (k : ℕ). k + length more) n in
+    let within : length rest ≤ length l = e.within in
+    let same : length rest % 8 ≡ length l % 8 = e.same in
+    record {
+      within = omega arith;
+      is = sym (ap (drop (length x)) p ∙ drop_at x more (length x) refl) ∙ ap (drop (length x)) e.is ∙ drop-drop (length x) (length l - length rest) l
+          ∙ ap (λ (k : ℕ). drop k l) (let z : length l - length rest + length x ≡ length l - length more = omega arith in z);
+      same = omega arith;
+    }
 
-      part : bits 8 v ≡ take (i + 8 - i) (drop i l)
-      part = ap₂ bits (sym len) e ∙ bits-value (take (i + 8 - i) (drop i l)) (every_take is_bit (i + 8 - i) (drop i l) (every_drop is_bit i l t))
+-- the register after the next eight
+pub eights_go : (x more rest : List ℕ) (r q v all : ℕ) → T (every is_bit x) → rest ≡ x ++ more → length x ≡ 8 → v ≡ value x → q ≡ register r (bits 8 v) → register r rest ≡ all → register q more ≡ all
+eights_go x more rest r q v all t p n e s a =
+    ap (λ (k : ℕ). register k more) (s ∙ ap (register r) (ap₂ bits (sym n) e ∙ bits-value x t)) ∙ sym (register_append x more r) ∙ ap (register r) (sym p) ∙ a
 
-  pub rest_part : T (every is_bit (take (length l - i) (drop i l)))
-  rest_part = every_take is_bit (length l - i) (drop i l) (every_drop is_bit i l t)
-
-pub rest_end : (l : List ℕ) (i r q all : ℕ) → q ≡ register r (take (length l - i) (drop i l)) → register r (drop i l) ≡ all → q ≡ all
-rest_end l i r q all e a = e ∙ ap (register r) (part_to_end l i) ∙ a
+-- what is left when no eight are
+pub eights_end : (l rest : List ℕ) → Eights l rest → length rest < 8 → rest ≡ drop (length l - length l % 8) l
+eights_end l rest e h = e.is ∙ ap (λ (k : ℕ). drop (length l - k) l) (let z : length rest ≡ length l % 8 = omega arith in z)

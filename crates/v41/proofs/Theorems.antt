@@ -2,7 +2,7 @@
 use Prim.Native.Nat.{ℕ, zero, suc, ◌+◌, ◌-◌, ◌%◌, ◌≤◌, ◌<◌}
 use mathlib.Core.Path.{◌≡◌, refl, sym, ap, ◌∙◌, subst}
 use mathlib.Core.Logic.{◌⊎◌, inl, inr, ⊎_elim}
-use mathlib.Core.Bool.{Bool, true, false, cond}
+use mathlib.Core.Bool.{Bool, true, false}
 use mathlib.Core.List.{List, [], ◌∷◌, ◌++◌}
 use native.Mathlib.Omega.{arith}
 use native.Mathlib.Decide.{dec_le}
@@ -10,10 +10,9 @@ use borrow.Author.Tests.{eq-eqb, eqb-true, leb-true}
 use lib.Dec.{T, eqb, leb, ltb, ltb→lt, lt→ltb, leb→le}
 use lib.ListN.{length, get_or, take, drop, replicate, length-append, get_or-eq_default, get_or-append}
 use lib.Seq.{sets, sets-eq, length-sets, take_at, drop_at, take-append-le, take-append_seam, drop-append_seam}
-use Rattle.v41.specs.declared.Checked.{Checked}
-use Rattle.v41.specs.declared.Made.{Made}
+use Rattle.std.specs.Prelude.{Ok, Err}
 use Rattle.line.specs.Table.{every}
-use Rattle.line.specs.Refusal.{accepted}
+use Rattle.line.specs.Refusal.{answered, accepted}
 use Rattle.line.proofs.RefusalLaws.{need-zero, or_zero}
 use Rattle.line.proofs.Tests.{and_split, and_join}
 use Rattle.line.proofs.TableLaws.{and_left, and_right, and_intro, is_true, every-at, every_take, every_drop}
@@ -125,24 +124,24 @@ unfolding bits_refusal
 bits_free size b s a = rw (s, a) refl
 
 -- the block is accepted exactly where nothing refuses it and it leaves nothing
-pub whole_means : (b : List ℕ) → check_answer b ≡ Checked.Whole → Whole b
+pub whole_means : (b : List ℕ) → check_answer b ≡ Ok true → Whole b
 unfolding check_answer check_refusal
 whole_means b e = go (bits_refusal (length b) b) (leaves_nothing b) refl refl e
   where
-    go : (n : ℕ) (l : Bool) → bits_refusal (length b) b ≡ n → leaves_nothing b ≡ l → accepted n (cond l Checked.Whole Checked.Broken) (Checked.Refused n) ≡ Checked.Whole → Whole b
+    go : (n : ℕ) (l : Bool) → bits_refusal (length b) b ≡ n → leaves_nothing b ≡ l → answered n l ≡ Ok true → Whole b
     go zero true p r e = let m = bits_met (length b) b p in record { size = m.0; bits = m.1; nothing_left = r }
     go zero false p r e = let z : ◌≡◌ {A = ℕ} 0 1 = cc in absurd (omega arith)
     go (suc n) l p r e = let z : ◌≡◌ {A = ℕ} 0 1 = cc in absurd (omega arith)
 
-pub means_whole : (b : List ℕ) → Whole b → check_answer b ≡ Checked.Whole
+pub means_whole : (b : List ℕ) → Whole b → check_answer b ≡ Ok true
 unfolding check_answer check_refusal
 means_whole b w = rw (bits_free (length b) b w.size w.bits, w.nothing_left) refl
 
-pub means_broken : (b : List ℕ) → is_size (length b) ≡ true → every is_bit b ≡ true → (leaves_nothing b ≡ true → ⊥) → check_answer b ≡ Checked.Broken
+pub means_broken : (b : List ℕ) → is_size (length b) ≡ true → every is_bit b ≡ true → (leaves_nothing b ≡ true → ⊥) → check_answer b ≡ Ok false
 unfolding check_answer check_refusal
-means_broken b s a l = rw (bits_free (length b) b s a) (go (leaves_nothing b) l)
+means_broken b s a l = rw (bits_free (length b) b s a) (ap Ok (go (leaves_nothing b) l))
   where
-    go : (t : Bool) → (t ≡ true → ⊥) → cond t Checked.Whole Checked.Broken ≡ Checked.Broken
+    go : (t : Bool) → (t ≡ true → ⊥) → t ≡ false
     go true f = absurd (f refl)
     go false f = refl
 
@@ -227,7 +226,7 @@ block-leaves given p =
     (subst (λ (c : List ℕ). Zeros (divided (1 ∷ low) (length given) (given ++ c)))
     (sym (remainder_is (length given) (given ++ replicate 16 0) (length-append given (replicate 16 0)))) (behind_nothing middle middle-bits given p))
 
-pub block-whole : (given : List ℕ) → is_size (length given + 16) ≡ true → T (every is_bit given) → check_answer (block given) ≡ Checked.Whole
+pub block-whole : (given : List ℕ) → is_size (length given + 16) ≡ true → T (every is_bit given) → check_answer (block given) ≡ Ok true
 unfolding block
 block-whole given s a =
     means_whole (block given)
@@ -258,11 +257,11 @@ record Written (given out : List ℕ) (n : ℕ) : Type 0 where
   written : n ≡ length given + 16
   bytes : make_bytes given out ≡ sets out 0 (block given)
 
-written_means : (given out : List ℕ) (n : ℕ) → make_answer given (length out) ≡ Made.Written n → Written given out n
+written_means : (given out : List ℕ) (n : ℕ) → make_answer given (length out) ≡ Ok n → Written given out n
 unfolding make_answer make_bytes
 written_means given out n e = go (make_refusal given (length out)) refl e
   where
-    go : (k : ℕ) → make_refusal given (length out) ≡ k → accepted k (Made.Written (length given + 16)) (Made.Refused k) ≡ Made.Written n → Written given out n
+    go : (k : ℕ) → make_refusal given (length out) ≡ k → answered k (length given + 16) ≡ Ok n → Written given out n
     go zero p e = record { free = make_met given out p; written = cc; bytes = rw p refl }
     go (suc k) p e = let z : ◌≡◌ {A = ℕ} 0 1 = cc in absurd (omega arith)
 
@@ -293,7 +292,7 @@ pub refusing : Refusing
 unfolding make_answer make_bytes
 refusing given out n e = go (make_refusal given (length out)) e
   where
-    go : (m : ℕ) → accepted m (Made.Written (length given + 16)) (Made.Refused m) ≡ Made.Refused n → accepted m (sets out 0 (block given)) out ≡ out
+    go : (m : ℕ) → answered m (length given + 16) ≡ Err n → accepted m (sets out 0 (block given)) out ≡ out
     go zero e = let z : ◌≡◌ {A = ℕ} 0 1 = cc in absurd (omega arith)
     go (suc m) e = refl
 

@@ -3,28 +3,16 @@
 #![tactic(auto)]
 
 ghost use Rattle.std.specs.Prelude.{◌≡◌, ◌<◌, ◌≤◌, T, length};
+ghost use Rattle.line.specs.Refusal.{numbered};
 ghost use Rattle.line.specs.Table.{every};
 ghost use Rattle.scrambler.specs.Bits.{is_bit, bits as bits_of, value};
 ghost use Rattle.v41.specs.Block.{is_size, bits_refusal, check_answer, CheckTold, make_answer, make_bytes, MakeTold};
 ghost use Rattle.v41.specs.Register.{next, register};
 
-// Whether a block is accepted, or the number that refuses it.
-#[derive(Clone, Copy)]
-pub enum Checked {
-    Refused(u8),
-    Whole,
-    Broken,
-}
-
-// The count of bytes written, or the number that refuses.
-#[derive(Clone, Copy)]
-pub enum Made {
-    Refused(u8),
-    Written(usize),
-}
+use line::Refusal;
 
 // Whether there are blocks of n bits.
-fn size_ok(n: usize) -> bool
+pub fn size_ok(n: usize) -> bool
     ensures { result ≡ is_size n }
 {
     (n == 260) | ((n == 500) | ((n == 980) | (n == 3860)))
@@ -55,87 +43,76 @@ fn shift_eight(r: u32, v: u32) -> u32
 }
 
 // The number that up to eight bits are, the first highest.
+#[tactic(auto, using(crate::proofs::Loops::number_small, crate::proofs::Loops::number_end))]
 fn number_of(input: &[u8]) -> u32
     requires { (length input.now ≤ 8) × T (every is_bit input.now) }
     ensures { (result ≡ value input.now) × (result < 256) }
 {
     let mut v = 0;
-    let mut k = 0;
-    while k < input.len() {
-        v = 2 * v + (input[k] as u32);
-        k += 1;
+    for b in input {
+        v = 2 * v + u32::from(*b);
     }
     v
 }
 
 // The register after bits more, one by one.
+#[tactic(auto, using(crate::proofs::Loops::bit_at))]
 fn divide_bits(start: u32, input: &[u8]) -> u32
     requires { (start < 65536) × T (every is_bit input.now) }
     ensures { (result ≡ register start input.now) × (result < 65536) }
 {
     let mut r = start;
-    let mut i = 0;
-    while i < input.len() {
-        r = shift(r, input[i] as u32);
-        i += 1;
+    for b in input {
+        r = shift(r, u32::from(*b));
     }
     r
 }
 
 // The register after all the bits, eight at a time: what their division leaves.
+#[tactic(auto, using(crate::proofs::Loops::eights_begun, crate::proofs::Loops::eight_bits, crate::proofs::Loops::eights_end))]
 fn divide(input: &[u8]) -> u32
     requires { T (every is_bit input.now) }
     ensures { (result ≡ register 0 input.now) × (result < 65536) }
 {
+    let eights = input.chunks_exact(8);
+    let rest = eights.remainder();
     let mut r = 0;
-    let mut i = 0;
-    while 8 <= input.len() - i {
-        let e = i + 8;
-        r = shift_eight(r, number_of(&input[i..e]));
-        i = e;
+    for eight in eights {
+        r = shift_eight(r, number_of(eight));
     }
-    divide_bits(r, &input[i..])
+    divide_bits(r, rest)
 }
 
-// Numbers 19 and 5 of bits for a block of that size, or 0.
-fn bits_fault(size: usize, input: &[u8]) -> u8
-    ensures { result ≡ bits_refusal size input.now }
+// What is wrong with bits for a block of that size.
+#[tactic(auto, unfolding(crate::specs::Block::bits_refusal))]
+fn bits_fault(size: usize, input: &[u8]) -> Result<(), Refusal>
+    ensures { numbered result ≡ bits_refusal size input.now }
 {
-    let sized = size_ok(size);
-    let of_bits = bits::are_bits(input);
-    line::need(sized, 19, line::need(of_bits, 5, 0))
+    line::need(size_ok(size), Refusal::BlockSize)?;
+    line::need(bits::are_bits(input), Refusal::Bit)
 }
 
-// Checks a block.
-pub fn check(input: &[u8]) -> Checked
+// Checks a block: whether it is accepted.
+pub fn check(input: &[u8]) -> Result<bool, Refusal>
     ensures value { result ≡ check_answer input.now }
     ensures check_told { CheckTold input.now result }
 {
-    let fault = bits_fault(input.len(), input);
-    if fault != 0 {
-        return Checked::Refused(fault);
-    }
-    if divide(input) == 0 {
-        return Checked::Whole;
-    }
-    Checked::Broken
+    bits_fault(input.len(), input)?;
+    Ok(divide(input) == 0)
 }
 
-// Makes a block of service and information bits at the front of `out`.
-pub fn make(input: &[u8], out: &mut [u8]) -> Made
+// Makes a block of service and information bits at the front of `out`: the count of bytes written.
+pub fn make(input: &[u8], out: &mut [u8]) -> Result<usize, Refusal>
     ensures value { result ≡ make_answer input.now (length out.old) }
     ensures out_after { out.new ≡ make_bytes input.now out.old }
     ensures make_told { MakeTold input.now (length out.old) result }
 {
     let n = input.len();
     let e = n + 16;
-    let room = line::need(e <= out.len(), 7, 0);
-    let fault = line::or_next(bits_fault(e, input), room);
-    if fault != 0 {
-        return Made::Refused(fault);
-    }
+    bits_fault(e, input)?;
+    line::need(e <= out.len(), Refusal::Lent)?;
     let r = shift_eight(shift_eight(divide(input), 0), 0);
     octets::put_all(out, 0, input);
     bits::put_bits(&mut out[n..e], r);
-    Made::Written(e)
+    Ok(e)
 }

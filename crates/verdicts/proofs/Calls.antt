@@ -1,7 +1,7 @@
 -- What `check_blocks` refuses and answers, by the tests that it makes. Assumes nothing.
 use Prim.Native.Nat.{ℕ, zero, suc, ◌+◌, ◌-◌, ◌*◌, ◌/◌, ◌≤◌, ◌<◌}
 use mathlib.Core.Path.{◌≡◌, refl, sym, ap, ap₂, ◌∙◌, subst}
-use mathlib.Core.Bool.{Bool, true, false, ◌&&◌}
+use mathlib.Core.Bool.{Bool, true, ◌&&◌}
 use mathlib.Core.List.{List}
 use native.Mathlib.Omega.{arith}
 use borrow.Author.Tests.{le-leb, lt-leb, leb-true, leb-false}
@@ -9,16 +9,17 @@ use lib.Dec.{T, leb, leb→le}
 use lib.ListN.{length}
 use lib.Seq.{sets}
 use Rattle.line.specs.Table.{every}
-use Rattle.line.specs.Refusal.{need, or_next, accepted}
-use Rattle.line.proofs.RefusalLaws.{need_met, next-first, next_rest, left_done, left_kept}
+use Rattle.std.specs.Prelude.{Result, Ok, Err}
+use Rattle.line.specs.declared.refusal.Refusal.{Refusal}
+use Rattle.line.specs.Refusal.{number, named, answered, need}
+use Rattle.line.proofs.RefusalLaws.{need_met, need-zero, next-first, next_rest, some_number, answer_given, answer_refused, Listed, listed_need, listed_next, left_done, left_kept}
 use Rattle.line.proofs.TableLaws.{and_left, and_right}
 use Rattle.line.proofs.Tests.{by_test}
 use Rattle.scrambler.specs.Bits.{is_bit}
 use Rattle.v41.specs.Block.{is_size, bits_refusal}
 use Rattle.v41.proofs.Theorems.{size_least, bits_met}
 use Rattle.verdicts.specs.declared.Lines.{Lines}
-use Rattle.verdicts.specs.declared.Lines.TheVariants.{Refused, Written}
-use Rattle.verdicts.specs.Verdicts.{text, taken, lines_refusal, lines_answer, lines_bytes, LinesTold}
+use Rattle.verdicts.specs.Verdicts.{text, text_lines, lines_refusal, lines_answer, lines_bytes, LinesTold}
 
 -- `lines_fault`: the tests without a product and without a sum
 room_test : (q lent : ℕ) → leb q (lent / 28) ≡ leb (28 * q) lent
@@ -33,60 +34,63 @@ place_test p n m h =
     (λ e. e ∙ sym (le-leb (p + n) m (omega (arith, leb-true p (m - n) e))))
     (λ e. e ∙ sym (lt-leb (p + n) m (omega (arith, leb-false p (m - n) e))))
 
-module _ (size place lent : ℕ) (bits : List ℕ) (s : Bool) (es : s ≡ is_size size) where
-  pub no_size : s ≡ false → 19 ≡ lines_refusal size place bits lent
-  unfolding lines_refusal bits_refusal
-  no_size f = rw (sym es ∙ f) refl
+module _ (size place lent : ℕ) (bits : List ℕ) (s : Bool) (es : s ≡ is_size size) (zs : 0 ≡ need s 19 0) where
+  sized : s ≡ true
+  sized = (need-zero s 19 0 (omega arith) (sym zs)).0
 
-  pub size_some : s ≡ true → 0 < size
-  size_some t = omega (arith, size_least size (sym es ∙ t))
+  pub size_some : 0 < size
+  size_some = omega (arith, size_least size (sym es ∙ sized))
 
-  pub fault_law : s ≡ true → length bits ≤ 18446744073709551615 → (a : Bool) (late n : ℕ) → a ≡ every is_bit bits
-      → late ≡ need (leb (length bits / size) (lent / 28) && leb place (18446744073709551615 - length bits)) 7 0 → n ≡ need a 5 late → n ≡ lines_refusal size place bits lent
+  pub fault_law : (a : Bool) (n : ℕ) → a ≡ every is_bit bits → 0 ≡ need a 5 0 → length bits ≤ 18446744073709551615
+      → n ≡ need (leb (length bits / size) (lent / 28) && leb place (18446744073709551615 - length bits)) 7 0 → n ≡ lines_refusal size place bits lent
   unfolding lines_refusal bits_refusal
-  fault_law t h a late n ea el en =
-      en ∙ ap₂ (λ (b : Bool) (k : ℕ). need b 5 k) ea
-      (el ∙ ap₂ (λ (b c : Bool). need (b && c) 7 0) (room_test (length bits / size) lent) (place_test place (length bits) 18446744073709551615 h))
-      ∙ rw (sym es ∙ t) (in_order (every is_bit bits) _)
-    where
-      in_order : (b : Bool) (k : ℕ) → need b 5 k ≡ or_next (need b 5 0) k
-      in_order true k = refl
-      in_order false k = refl
+  fault_law a n ea za h e =
+      e ∙ ap₂ (λ (b c : Bool). need (b && c) 7 0) (room_test (length bits / size) lent) (place_test place (length bits) 18446744073709551615 h)
+      ∙ rw (sym es ∙ sized, sym ea ∙ (need-zero a 5 0 (omega arith) (sym za)).0) refl
 
 -- WHAT THE CASES SAY
 
-told : (size place lent : ℕ) (bits : List ℕ) (r : Lines) → r ≡ lines_answer size place bits lent → LinesTold size place bits lent r
+none_listed : Listed 0
+none_listed h = absurd (h refl)
+
+listed : (size place : ℕ) (bits : List ℕ) (lent : ℕ) → Listed (lines_refusal size place bits lent)
+unfolding lines_refusal bits_refusal named
+listed size place bits lent =
+    listed_next _ _ (listed_need (is_size size) 19 _ (λ h. refl) (listed_need (every is_bit bits) 5 0 (λ h. refl) none_listed))
+    (listed_need _ 7 0 (λ h. refl) none_listed)
+
+told : (size place lent : ℕ) (bits : List ℕ) (r : Result Lines Refusal) → r ≡ lines_answer size place bits lent → LinesTold size place bits lent r
 unfolding lines_answer
-told size place lent bits r e = subst (LinesTold size place bits lent) (sym e) (go (lines_refusal size place bits lent) refl)
+told size place lent bits r e = subst (LinesTold size place bits lent) (sym e) (go (lines_refusal size place bits lent) (listed size place bits lent) refl)
   where
-    go : (n : ℕ) → lines_refusal size place bits lent ≡ n → LinesTold size place bits lent (accepted n (Written (length (text size place bits)) (taken size bits)) (Refused n))
-    go zero p = record { number_is = sym p; length_is = rw p refl; taken_is = rw p refl }
-    go (suc n) p = record { number_is = sym p; length_is = rw p refl; taken_is = rw p refl }
+    go : (n : ℕ) → Listed n → lines_refusal size place bits lent ≡ n → LinesTold size place bits lent (answered n (text_lines size place bits))
+    go zero h p = record { number_is = sym p; length_is = rw p refl; taken_is = rw p refl }
+    go (suc n) h p = record { number_is = h (λ (z : suc n ≡ 0). omega arith) ∙ sym p; length_is = rw p refl; taken_is = rw p refl }
 
 -- `check_blocks`
-module _ (size place : ℕ) (bits out : List ℕ) (n : ℕ) (en : n ≡ lines_refusal size place bits (length out)) where
-  abbrev Ends : Lines → List ℕ → Type 0
+module _ (size place : ℕ) (bits out : List ℕ) where
+  abbrev Ends : Result Lines Refusal → List ℕ → Type 0
   Ends r w = (r ≡ lines_answer size place bits (length out)) × ((w ≡ lines_bytes size place bits out) × LinesTold size place bits (length out) r)
 
-  ends : (r : Lines) (w : List ℕ) → r ≡ accepted n (Written (length (text size place bits)) (taken size bits)) (Refused n) → w ≡ accepted n (sets out 0 (text size place bits)) out → Ends r w
+  pub lines_refused : (f : Refusal) → number f ≡ lines_refusal size place bits (length out) → Ends (Err f) out
   unfolding lines_answer lines_bytes
-  ends r w e q =
-      let answer : r ≡ lines_answer size place bits (length out) = e ∙ ap (λ (k : ℕ). accepted k (Written (length (text size place bits)) (taken size bits)) (Refused k)) en in
-      (answer, (q ∙ ap (λ (k : ℕ). accepted k (sets out 0 (text size place bits)) out) en, told size place (length out) bits r answer))
+  lines_refused f e =
+      let answer : Err f ≡ lines_answer size place bits (length out) = answer_refused f _ (text_lines size place bits) e in
+      (answer, (left_kept _ _ out (λ z. some_number f (e ∙ z)), told size place (length out) bits (Err f) answer))
 
-  pub lines_refused : (n ≡ 0 → ⊥) → Ends (Refused n) out
-  lines_refused h = ends (Refused n) out (left_kept n _ (Refused n) h) (left_kept n _ out h)
-
-  module _ (z : n ≡ 0) where
+  module _ (z : 0 ≡ lines_refusal size place bits (length out)) where
     pub lines_free : (0 < size) × (28 * (length bits / size) ≤ length out) × (place + length bits ≤ 18446744073709551615)
     unfolding lines_refusal
     lines_free =
-        let r : lines_refusal size place bits (length out) ≡ 0 = sym en ∙ z in
+        let r : lines_refusal size place bits (length out) ≡ 0 = sym z in
         let room : Bool = leb (28 * (length bits / size)) (length out) in
         let counted : Bool = leb (place + length bits) 18446744073709551615 in
         let m : T (room && counted) = need_met (room && counted) 6 0 (next_rest (bits_refusal size bits) _ r) in
         let sized : 260 ≤ size = size_least size (bits_met size bits (next-first (bits_refusal size bits) _ r)).0 in
         (omega arith, leb→le _ _ (and_left room counted m), leb→le _ _ (and_right room counted m))
 
-    pub lines_done : (r : Lines) (w : List ℕ) → (r ≡ Written (length (text size place bits)) (taken size bits)) × (w ≡ sets out 0 (text size place bits)) → Ends r w
-    lines_done r w e = ends r w (e.0 ∙ left_done n _ _ z) (e.1 ∙ left_done n _ out z)
+    pub lines_done : (r : Lines) (w : List ℕ) → (r ≡ text_lines size place bits) × (w ≡ sets out 0 (text size place bits)) → Ends (Ok r) w
+    unfolding lines_answer lines_bytes
+    lines_done r w e =
+        let answer : Ok r ≡ lines_answer size place bits (length out) = ap Ok e.0 ∙ answer_given _ (text_lines size place bits) (sym z) in
+        (answer, (e.1 ∙ left_done _ _ out (sym z), told size place (length out) bits (Ok r) answer))

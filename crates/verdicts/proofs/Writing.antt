@@ -1,20 +1,22 @@
 -- What the functions that write lines ask, as laws. Assumes nothing.
 use Prim.Native.Nat.{ℕ, suc, ◌+◌, ◌-◌, ◌*◌, ◌/◌, ◌≤◌, ◌<◌}
 use mathlib.Core.Path.{◌≡◌, refl, sym, ap, ap₂, ◌∙◌}
-use mathlib.Core.Bool.{Bool, cond}
+use mathlib.Core.Bool.{Bool, false, cond}
 use mathlib.Core.List.{List, [], ◌++◌}
-use native.Mathlib.Nat.{div-eq_of_lt, suc-mul}
 use native.Mathlib.Omega.{arith}
-use lib.ListN.{length, take, drop, length-drop, length-append}
-use lib.Seq.{sets, length-sets, drop-drop}
+use lib.ListN.{length, take, drop, length-append}
+use Rattle.std.proofs.lemmas.List.{take_at, drop_at}
+use lib.Seq.{sets, length-sets}
 use Rattle.std.specs.Counts.{IsPrefixLen}
 use Rattle.io.specs.Digits.{IsDigitCount}
 use Rattle.io.specs.Digits.{last_digits as written}
 use Rattle.line.proofs.Sets.{sets_then}
-use Rattle.v41.specs.declared.Checked.{Checked}
+use Rattle.std.specs.Prelude.{Result, Ok, Err}
+use Rattle.std.specs.Result.{result_unwrap_or}
+use Rattle.line.specs.declared.refusal.Refusal.{Refusal}
 use Rattle.v41.specs.Block.{check_answer, is_accepted}
-use Rattle.verdicts.specs.declared.Lines.TheVariants.{Written}
-use Rattle.verdicts.specs.Verdicts.{whole_word, broken_word, decimal, verdict, line, text, taken}
+use Rattle.verdicts.specs.declared.Lines.{Lines}
+use Rattle.verdicts.specs.Verdicts.{whole_word, broken_word, decimal, verdict, line, text, taken, text_lines}
 use Rattle.verdicts.proofs.Digits.{twenty, decimal_written}
 use Rattle.verdicts.proofs.TextLaws.{blocks_step, text-step, text_none, word_long}
 
@@ -27,12 +29,16 @@ abbrev PutMost : ℕ → List ℕ → ℕ → List ℕ → List ℕ → ℕ → 
 PutMost k out at vs out' p = (out' ≡ sets out at vs) × (p ≡ at + length vs) × (p ≤ at + k)
 
 -- `put_verdict`
-pub verdict_put : (b out out' : List ℕ) (at p : ℕ) (r : Checked) → r ≡ check_answer b → (v : Bool) → is_accepted r ≡ v → Put out at (cond v whole_word broken_word) out' p
-    → PutMost 8 out at (verdict b) out' p
+unwrapped : (r : Result Bool Refusal) → result_unwrap_or r false ≡ is_accepted r
+unwrapped (Ok v) = refl
+unwrapped (Err e) = refl
+
+pub verdict_put : (b out out' : List ℕ) (at p : ℕ) (r : Result Bool Refusal) → r ≡ check_answer b → (w : Bool) → w ≡ result_unwrap_or r false → (v : Bool) → w ≡ v
+    → Put out at (cond v whole_word broken_word) out' p → PutMost 8 out at (verdict b) out' p
 unfolding verdict
-verdict_put b out out' at p r e v q w =
-    let is : cond v whole_word broken_word ≡ verdict b = ap (λ (t : Bool). cond t whole_word broken_word) (sym q ∙ ap is_accepted e) in
-    (w.0 ∙ ap (sets out at) is, w.1 ∙ ap (λ (l : List ℕ). at + length l) is, omega (arith, w.1, word_long v))
+verdict_put b out out' at p r e w u v q k =
+    let is : cond v whole_word broken_word ≡ verdict b = ap (λ (t : Bool). cond t whole_word broken_word) (sym q ∙ u ∙ unwrapped r ∙ ap is_accepted e) in
+    (k.0 ∙ ap (sets out at) is, k.1 ∙ ap (λ (l : List ℕ). at + length l) is, omega (arith, k.1, word_long v))
 
 -- `put_line`
 module _ (n k : ℕ) (d : List ℕ) (c : IsPrefixLen k d) (f : IsDigitCount 10 1 n k) (e : take k d ≡ written 10 k n) (h : n < 18446744073709551616) where
@@ -52,58 +58,56 @@ module _ (n k : ℕ) (d : List ℕ) (c : IsPrefixLen k d) (f : IsDigitCount 10 1
 
 -- `put_lines`: what is left to do is what was left to do
 
--- the lines of the first i bits stand before `at`
-pub record Left (size place : ℕ) (input out₀ out : List ℕ) (at i : ℕ) : Type 0 where
-  pub within : i ≤ length input
+-- the lines of the bits before `rest` stand before `at`; its first bit has the place `first`
+pub record Left (size place : ℕ) (input out₀ out : List ℕ) (at first : ℕ) (rest : List ℕ) : Type 0 where
+  pub within : first + length rest ≡ place + length input
   pub same : length out ≡ length out₀
-  pub room : at + 28 * ((length input - i) / size) ≤ length out₀
-  pub lines : sets out at (text size (place + i) (drop i input)) ≡ sets out₀ 0 (text size place input)
-  pub counted : at + length (text size (place + i) (drop i input)) ≡ length (text size place input)
-  pub rest : i + (length input - i) / size * size ≡ taken size input
+  pub room : at + 28 * (length rest / size) ≤ length out₀
+  pub lines : sets out at (text size first rest) ≡ sets out₀ 0 (text size place input)
+  pub counted : at + length (text size first rest) ≡ length (text size place input)
 
 module _ (size place : ℕ) (input out₀ : List ℕ) where
-  pub left-start : 28 * (length input / size) ≤ length out₀ → Left size place input out₀ out₀ 0 0
-  unfolding taken
-  left-start h =
-      let z : place + 0 ≡ place = omega arith in
-      let n : length input - 0 ≡ length input = omega arith in
-      record { within = omega arith; same = refl; room = rw n (omega arith); lines = rw z refl; counted = rw z (omega arith); rest = rw n (omega arith) }
+  pub left-start : 28 * (length input / size) ≤ length out₀ → Left size place input out₀ out₀ 0 place input
+  left-start h = record { within = refl; same = refl; room = omega arith; lines = refl; counted = omega arith }
 
-  module _ (some : 0 < size) (out : List ℕ) (at i : ℕ) (l : Left size place input out₀ out at i) where
-    module _ (h : size ≤ length input - i) where
-      block : List ℕ
-      block = take (i + size - i) (drop i input)
+  module _ (some : 0 < size) (out : List ℕ) (at first : ℕ) (rest : List ℕ) (l : Left size place input out₀ out at first rest) where
+    module _ (block more : List ℕ) (e : rest ≡ block ++ more) (n : length block ≡ size) where
+      long : length rest ≡ size + length more
+      long = ap length e ∙ length-append block more ∙ ap (λ (k : ℕ). k + length more) n
 
-      one_less : (length input - i) / size ≡ suc ((length input - (i + size)) / size)
+      one_less : length rest / size ≡ suc (length more / size)
       one_less =
-          blocks_step size some (length input - i) h ∙ ap (λ (n : ℕ). suc (n / size)) (let z : length input - i - size ≡ length input - (i + size) = omega arith in z)
+          let q = long in
+          blocks_step size some (length rest) (omega arith) ∙ ap (λ (k : ℕ). suc (k / size)) (let z : length rest - size ≡ length more = omega arith in z)
 
       pub line_room : at + 28 ≤ length out
       line_room = omega (arith, l.room, l.same, one_less)
 
-      here : text size (place + i) (drop i input) ≡ line (place + i) block ++ text size (place + (i + size)) (drop (i + size) input)
-      unfolding block
-      here =
-          text-step size some (place + i) (drop i input) (omega (arith, length-drop i input))
-          ∙ ap₂ (λ (n p : ℕ). line (place + i) (take n (drop i input)) ++ text size p (drop size (drop i input))) (let z : size ≡ i + size - i = omega arith in z) (let z : place + i + size ≡ place + (i + size) = omega arith in z)
-          ∙ ap (λ (d : List ℕ). line (place + i) (take (i + size - i) (drop i input)) ++ text size (place + (i + size)) d) (drop-drop size i input)
+      pub place_fits : first + size ≤ place + length input
+      place_fits = omega (arith, l.within, long)
 
-      pub left-next : (out' : List ℕ) (at' : ℕ) → PutMost 28 out at (line (place + i) (take (i + size - i) (drop i input))) out' at' → Left size place input out₀ out' at' (i + size)
-      unfolding block
+      here : text size first rest ≡ line first block ++ text size (first + size) more
+      here =
+          let q = long in
+          text-step size some first rest (omega arith)
+          ∙ ap₂ (λ (b c : List ℕ). line first b ++ text size (first + size) c) (ap (take size) e ∙ take_at block more size n) (ap (drop size) e ∙ drop_at block more size n)
+
+      pub left-next : (out' : List ℕ) (at' : ℕ) → PutMost 28 out at (line first block) out' at' → Left size place input out₀ out' at' (first + size) more
       left-next out' at' w =
-          let ln : List ℕ = line (place + i) block in
-          let more : List ℕ = text size (place + (i + size)) (drop (i + size) input) in
+          let ln : List ℕ = line first block in
+          let after : List ℕ = text size (first + size) more in
           record {
-            within = omega arith;
+            within = omega (arith, l.within, long);
             same = ap length w.0 ∙ length-sets out at ln ∙ l.same;
             room = omega (arith, l.room, one_less, w.2);
-            lines = ap (λ (o : List ℕ). sets o at' more) w.0 ∙ sets_then ln more out at at' (sym w.1) ∙ sym (ap (sets out at) here) ∙ l.lines;
-            counted = omega (arith, l.counted, w.1, ap length here, length-append ln more);
-            rest = omega (arith, l.rest, ap (λ (n : ℕ). n * size) one_less, suc-mul ((length input - (i + size)) / size) size);
+            lines = ap (λ (o : List ℕ). sets o at' after) w.0 ∙ sets_then ln after out at at' (sym w.1) ∙ sym (ap (sets out at) here) ∙ l.lines;
+            counted = omega (arith, l.counted, w.1, ap length here, length-append ln after);
           }
 
-    pub left_none : length input - i < size
-        → (Written at i ≡ Written (length (text size place input)) (taken size input)) × (out ≡ sets out₀ 0 (text size place input))
-    left_none h =
-        let none : text size (place + i) (drop i input) ≡ [] = text_none size some (place + i) (drop i input) (omega (arith, length-drop i input)) in
-        (ap₂ Written (omega (arith, l.counted, ap length none)) (omega (arith, l.rest, ap (λ (n : ℕ). n * size) (div-eq_of_lt h))), sym (ap (sets out at) none) ∙ l.lines)
+    pub left_none : (n : ℕ) → length rest < n → n ≡ size
+        → ◌≡◌ {A = Lines} (record { written = at; taken = length input / size * size }) (text_lines size place input) × (out ≡ sets out₀ 0 (text size place input))
+    unfolding taken
+    left_none n h e =
+        let none : text size first rest ≡ [] = text_none size some first rest (let z : length rest < size = omega arith in z) in
+        let count : at ≡ length (text size place input) = omega (arith, l.counted, ap length none) in
+        (λ i. record { written = count i; taken = length input / size * size }, sym (ap (sets out at) none) ∙ l.lines)

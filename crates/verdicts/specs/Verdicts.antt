@@ -1,11 +1,11 @@
 -- The front's command `check`: one line a block, `P whole` or `P broken`, P being the place of the block's first bit in the whole input, counted
 -- from 0. What `check_blocks` refuses, answers and writes.
-use Rattle.std.specs.Prelude.{ℕ, zero, suc, ◌+◌, ◌*◌, ◌/◌, ◌%◌, ◌≡◌, ◌&&◌, cond, List, [], ◌∷◌, ◌++◌, ltb, leb, length, take, drop}
+use Rattle.std.specs.Prelude.{ℕ, zero, suc, ◌+◌, ◌*◌, ◌/◌, ◌%◌, ◌≡◌, ◌&&◌, cond, List, [], ◌∷◌, ◌++◌, Result, Ok, Err, ltb, leb, length, take, drop}
 use Rattle.std.proofs.lemmas.List.Edits.{sets}
-use Rattle.line.specs.Refusal.{need, or_next, accepted}
+use Rattle.line.specs.declared.refusal.Refusal.{Refusal}
+use Rattle.line.specs.Refusal.{numbered, answered, need, or_next, accepted}
 use Rattle.v41.specs.Block.{bits_refusal, check_answer, is_accepted}
 use Rattle.verdicts.specs.declared.Lines.{Lines}
-use Rattle.verdicts.specs.declared.Lines.TheVariants.{Refused, Written}
 
 -- THE LINE OF A BLOCK
 
@@ -56,30 +56,27 @@ lines_refusal size place bits lent =
     or_next (bits_refusal size bits)
     (need (leb (28 * (length bits / size)) lent && leb (place + length bits) 18446744073709551615) 7 0)
 
-unfoldable pub lines_answer : ℕ → ℕ → List ℕ → ℕ → Lines
-lines_answer size place bits lent =
-    accepted (lines_refusal size place bits lent)
-    (Written (length (text size place bits)) (taken size bits))
-    (Refused (lines_refusal size place bits lent))
+-- the length of the text, and how many bits it tells of
+abbrev pub text_lines : ℕ → ℕ → List ℕ → Lines
+text_lines size place bits = record { written = length (text size place bits); taken = taken size bits }
+
+unfoldable pub lines_answer : ℕ → ℕ → List ℕ → ℕ → Result Lines Refusal
+lines_answer size place bits lent = answered (lines_refusal size place bits lent) (text_lines size place bits)
 
 -- the lent bytes after it: the text at their front, and all others as they were
 unfoldable pub lines_bytes : ℕ → ℕ → List ℕ → List ℕ → List ℕ
 lines_bytes size place bits out = accepted (lines_refusal size place bits (length out)) (sets out 0 (text size place bits)) out
 
--- what each case says: a refusal's number, 0 for none; the length of the text; how many bits were taken
-abbrev pub lines_number : Lines → ℕ
-lines_number (Refused n) = n
-lines_number (Written n b) = 0
+-- what each case says beside its number: the length of the text; how many bits were taken
+abbrev pub text_length : Result Lines Refusal → ℕ
+text_length (Err e) = 0
+text_length (Ok l) = l.written
 
-abbrev pub text_length : Lines → ℕ
-text_length (Refused n) = 0
-text_length (Written n b) = n
+abbrev pub bits_taken : Result Lines Refusal → ℕ
+bits_taken (Err e) = 0
+bits_taken (Ok l) = l.taken
 
-abbrev pub bits_taken : Lines → ℕ
-bits_taken (Refused n) = 0
-bits_taken (Written n b) = b
-
-pub record LinesTold (size place : ℕ) (bits : List ℕ) (lent : ℕ) (r : Lines) : Type 0 where
-  pub number_is : lines_number r ≡ lines_refusal size place bits lent
+pub record LinesTold (size place : ℕ) (bits : List ℕ) (lent : ℕ) (r : Result Lines Refusal) : Type 0 where
+  pub number_is : numbered r ≡ lines_refusal size place bits lent
   pub length_is : text_length r ≡ accepted (lines_refusal size place bits lent) (length (text size place bits)) 0
   pub taken_is : bits_taken r ≡ accepted (lines_refusal size place bits lent) (taken size bits) 0

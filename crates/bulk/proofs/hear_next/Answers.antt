@@ -10,9 +10,9 @@ use Rattle.bulk.proofs.hear_next.Goals as goal
 pub hear-h-requires : goal.hear-h-requires
 hear-h-requires c =
     rw (to_z-of_z (sfits_of {w = w16} c.hear-arg-1.given), to_z-of_z (sfits_of {w = w16} c.hear-arg-2-1.given))
-    (c.requires.0, hearing_free _ _ _ _ _ _ c.args.from c.requires.1 c.if-points-from.false)
+    (c.requires.rows_are, hearing_free _ _ _ _ _ _ c.args.from c.requires.heard c.if-points-from.false)
 
 pub returns : goal.returns
 returns c =
     let e = rw (to_z-of_z (sfits_of {w = w16} c.hear-arg-1.given), to_z-of_z (sfits_of {w = w16} c.hear-arg-2-1.given)) at c.hear-h.ensures in
-    (hearing_step c.args.s _ _ c.args.from c.args.s (parts c.args.line.now c.args.plain.now c.args.distance.now) c.args.from c.requires.1 c.if-points-from.false _ _ e refl, λ i. omega arith)
+    (hearing_step c.args.s _ _ c.args.from c.args.s (parts c.args.line.now c.args.plain.now c.args.distance.now) c.args.from c.requires.heard c.if-points-from.false _ _ e refl, λ i. omega arith)

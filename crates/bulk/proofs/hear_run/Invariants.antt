@@ -10,7 +10,3 @@ abbrev pub invariant-loop-k : goal.invariant-loop-k
 invariant-loop-k l =
     Hearing l.s (parts l.initial.line l.initial.plain l.initial.distance) l.points l.from (later_at l.s l.x l.bits l.held l.count (l.k - l.from)) (parts l.line l.plain l.distance) l.k
     × (guarded l.s.mode ≡ true → l.held ≡ capacity l.s.mode)
-
-abbrev pub decreases-loop-k : goal.decreases-loop-k
-decreases-loop-k l =
-    l.n - l.k

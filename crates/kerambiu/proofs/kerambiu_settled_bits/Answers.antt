@@ -1,19 +1,19 @@
-use mathlib.Core.Path.{sym, ap, ◌∙◌}
-use lib.ListN.{length-set}
-use Rattle.settled.specs.Run.{number_of, runs_of}
+use mathlib.Core.Path.{sym, ◌∙◌}
+use mathlib.Core.Bool.{true, false}
+use mathlib.Core.List.{[], ◌∷◌}
 use Rattle.kerambiu.proofs.SettledLaws.{run_short, run_given}
-use borrow.Author.Rules.{rules}
-use borrow.Author.Rules.{rules}
 use Rattle.kerambiu.proofs.kerambiu_settled_bits.Goals as goal
 
-pub returns-then-run-lt3 : goal.returns-then-run-lt3
-returns-then-run-lt3 c = run_short c.args.mode c.args.line.now c.args.plain.now c.args.out.now c.args.run.now _ _ c.if-run-lt3.true c.mode_ok.ensures c.need.ensures
+pub returns-then-mode_ok : goal.returns-then-mode_ok
+returns-then-mode_ok c = run_short c.args.mode c.args.line.now c.args.plain.now c.args.out.now c.args.run.now true c.if-run-lt3.true (sym c.if-mode_ok.true ∙ c.mode_ok.ensures)
 
-pub bounds-run-1 : goal.bounds-run-1
-bounds-run-1 c = simp length-set (search rules)
+pub returns-else-mode_ok : goal.returns-else-mode_ok
+returns-else-mode_ok c = run_short c.args.mode c.args.line.now c.args.plain.now c.args.out.now c.args.run.now false c.if-run-lt3.true (sym c.if-mode_ok.false ∙ c.mode_ok.ensures)
 
-pub returns-in-Refused : goal.returns-in-Refused
-returns-in-Refused c = run_given c.args.mode c.args.line.now c.args.plain.now c.args.out.now c.args.run.now _ _ _ c.if-run-lt3.false (sym (ap number_of c.in-Refused.is) ∙ c.settled_bits-taken.ensures.told.number_is) (sym (ap runs_of c.in-Refused.is) ∙ c.settled_bits-taken.ensures.told.run_is) c.settled_bits-taken.ensures.out_after
+pub returns-in-Err : goal.returns-in-Err
+returns-in-Err c =
+    run_given c.args.mode c.args.line.now c.args.plain.now c.args.out.now c.args.run.now _ [] _ c.if-run-lt3.false (c.number.ensures ∙ c.in-Err.ensures.told.number_is) c.in-Err.ensures.told.run_is c.in-Err.ensures.out_after
 
-pub returns-in-Found : goal.returns-in-Found
-returns-in-Found c = run_given c.args.mode c.args.line.now c.args.plain.now c.args.out.now c.args.run.now _ _ _ c.if-run-lt3.false (sym (ap number_of c.in-Found.is) ∙ c.settled_bits-taken.ensures.told.number_is) (sym (ap runs_of c.in-Found.is) ∙ c.settled_bits-taken.ensures.told.run_is) c.settled_bits-taken.ensures.out_after
+pub returns-in-Ok : goal.returns-in-Ok
+returns-in-Ok c =
+    run_given c.args.mode c.args.line.now c.args.plain.now c.args.out.now c.args.run.now 0 (c.in-Ok.found ∷ []) _ c.if-run-lt3.false c.in-Ok.ensures.told.number_is c.in-Ok.ensures.told.run_is c.in-Ok.ensures.out_after

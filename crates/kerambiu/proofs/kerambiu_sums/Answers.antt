@@ -1,21 +1,14 @@
-use lib.ListN.{length-set}
-use Rattle.summing.proofs.Walks.{told_refused, told_sums}
+use mathlib.Core.Path.{◌∙◌}
 use Rattle.kerambiu.proofs.SummingLaws.{sums_short, sums_kept, sums_done}
-use borrow.Author.Rules.{rules}
 use Rattle.kerambiu.proofs.kerambiu_sums.Goals as goal
 
 pub returns-then-sums-lt3 : goal.returns-then-sums-lt3
 returns-then-sums-lt3 c = sums_short c.args.store.now c.args.sums.now c.if-sums-lt3.true
 
-pub bounds-sums-1 : goal.bounds-sums-1
-bounds-sums-1 c = simp length-set (search rules)
+pub returns-in-Err : goal.returns-in-Err
+returns-in-Err c =
+    let t = sums_kept c.args.store.now c.args.sums.now c.if-sums-lt3.false c.in-Err.refusal c.in-Err.ensures in
+    (c.number.ensures ∙ t.0, t.1)
 
-pub returns-in-Refused : goal.returns-in-Refused
-returns-in-Refused c =
-    let t = told_refused c.args.store.now _ _ c.sums-summed.ensures c.in-Refused.is in
-    sums_kept c.args.store.now c.args.sums.now c.if-sums-lt3.false _ t.0 t.1
-
-pub returns-in-Sums : goal.returns-in-Sums
-returns-in-Sums c =
-    let t = told_sums c.args.store.now _ _ c.sums-summed.ensures c.in-Sums.is in
-    sums_done c.args.store.now c.args.sums.now c.if-sums-lt3.false _ t.0 t.1
+pub returns-in-Ok : goal.returns-in-Ok
+returns-in-Ok c = sums_done c.args.store.now c.args.sums.now c.if-sums-lt3.false c.in-Ok.v c.in-Ok.ensures

@@ -1,45 +1,6 @@
-use native.Mathlib.Omega.{arith}
-use lib.ListN.{length-set}
-use mathlib.Core.Path.{refl}
 use Rattle.lent_receiver.specs.Receiving.{answer_bytes}
 use Rattle.lent_receiver.proofs.put_answer.Goals as goal
 
-pub bounds-b-1 : goal.bounds-b-1
-bounds-b-1 c = simp length-set (omega arith)
-
-pub bounds-b-2 : goal.bounds-b-2
-bounds-b-2 c = simp length-set (omega arith)
-
-pub bounds-b-3 : goal.bounds-b-3
-bounds-b-3 c = simp length-set (omega arith)
-
-pub bounds-b-4 : goal.bounds-b-4
-bounds-b-4 c = simp length-set (omega arith)
-
-pub bounds-b-5 : goal.bounds-b-5
-bounds-b-5 c = simp length-set (omega arith)
-
-pub bounds-b-6 : goal.bounds-b-6
-bounds-b-6 c = simp length-set (omega arith)
-
-pub bounds-b-7 : goal.bounds-b-7
-bounds-b-7 c = simp length-set (omega arith)
-
-pub bounds-b-8 : goal.bounds-b-8
-bounds-b-8 c = simp length-set (omega arith)
-
-pub bounds-b-9 : goal.bounds-b-9
-bounds-b-9 c = simp length-set (omega arith)
-
-pub bounds-b-10 : goal.bounds-b-10
-bounds-b-10 c = simp length-set (omega arith)
-
-pub bounds-b-11 : goal.bounds-b-11
-bounds-b-11 c = simp length-set (omega arith)
-
-pub shape_of-b : goal.shape_of-b
-shape_of-b c = simp length-set
-
 pub returns : goal.returns
 unfolding answer_bytes
-returns c = refl
+returns c = rw c.put_word.ensures at c.put_word-2.ensures

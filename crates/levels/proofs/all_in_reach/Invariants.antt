@@ -1,13 +1,9 @@
-use Prim.Native.Nat.{◌-◌, ◌≤◌}
 use mathlib.Core.Path.{◌≡◌}
 use mathlib.Core.Bool.{◌&&◌}
-use lib.ListN.{length, drop}
+use lib.ListN.{drop}
 use Rattle.line.specs.Table.{every}
 use Rattle.levels.specs.Levels.{in_reach}
 use Rattle.levels.proofs.all_in_reach.Given as goal
 
-abbrev pub invariant-loop-k : goal.invariant-loop-k
-invariant-loop-k l = (l.k ≤ length l.levels) × (every in_reach l.levels ≡ l.all && every in_reach (drop l.k l.levels))
-
-abbrev pub decreases-loop-k : goal.decreases-loop-k
-decreases-loop-k l = length l.levels - l.k
+abbrev pub invariant-loop-x : goal.invariant-loop-x
+invariant-loop-x l = every in_reach l.levels ≡ l.all && every in_reach (drop l.x-index l.levels)

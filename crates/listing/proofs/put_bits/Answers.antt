@@ -20,12 +20,6 @@ glyph_at-requires c = omega arith
 pub put8-requires : goal.put8-requires
 put8-requires c = tt
 
-pub overflow_add-k : goal.overflow_add-k
-overflow_add-k c = omega arith
-
-pub loop-k-smaller : goal.loop-k-smaller
-loop-k-smaller c = omega arith
-
 pub loop-k-preserved : goal.loop-k-preserved
 loop-k-preserved c =
     let e = bits-step c.args.w c.args.v c.args.unsettled c.loop-k.k _ c.loop-k-test.true c.glyph_at.ensures in

@@ -1,4 +1,4 @@
-use Prim.Native.Nat.{◌≤◌, ◌-◌, ◌+◌}
+use Prim.Native.Nat.{◌≤◌, ◌+◌}
 use mathlib.Core.Path.{◌≡◌}
 use lib.ListN.{length}
 use Rattle.scrambler.specs.Bits.{bits}
@@ -9,6 +9,3 @@ use Rattle.listing.proofs.put_bits.Given as goal
 
 abbrev pub invariant-loop-k : goal.invariant-loop-k
 invariant-loop-k l = (l.k ≤ l.w) × (length l.out ≡ length l.initial.out) × Rest l.initial.out l.out l.at (l.at + l.k) (glyphs (marked l.unsettled (bits l.w l.v))) (bits_left l.w l.v l.unsettled l.k)
-
-abbrev pub decreases-loop-k : goal.decreases-loop-k
-decreases-loop-k l = l.w - l.k

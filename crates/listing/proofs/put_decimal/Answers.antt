@@ -14,9 +14,6 @@ overflow_add-end c = omega (arith, c.digit_count.ensures)
 pub loop-i-init : goal.loop-i-init
 loop-i-init c = (omega arith, refl, spelt_start _ _ _ _ _ c.digit_count.ensures.0 refl)
 
-pub overflow_sub-i : goal.overflow_sub-i
-overflow_sub-i c = omega arith
-
 pub overflow_cast-rest : goal.overflow_cast-rest
 overflow_cast-rest c = omega arith
 
@@ -25,9 +22,6 @@ overflow_add-rest c = omega arith
 
 pub put8-requires : goal.put8-requires
 put8-requires c = tt
-
-pub loop-i-smaller : goal.loop-i-smaller
-loop-i-smaller c = omega arith
 
 pub loop-i-preserved : goal.loop-i-preserved
 loop-i-preserved c = (

@@ -8,6 +8,3 @@ use Rattle.listing.proofs.put_decimal.Given as goal
 
 abbrev pub invariant-loop-i : goal.invariant-loop-i
 invariant-loop-i l = (l.at ≤ l.i) × (length l.out ≡ length l.initial.out) × (sets l.out l.at (spelt (l.i - l.at) l.rest) ≡ sets l.initial.out l.at (decimal l.n))
-
-abbrev pub decreases-loop-i : goal.decreases-loop-i
-decreases-loop-i l = l.i

@@ -6,4 +6,4 @@ use Rattle.listing.proofs.put_lost.Goals as goal
 pub returns : goal.returns
 unfolding line_text kind_text
 returns c =
-    (wrote_then c.put_decimal-kind.ensures.0 (wrote_then (wrote_then c.put_text-count.ensures c.put_decimal-end.ensures.0) c.put_text.ensures), omega (arith, c.put_decimal-kind.ensures.1, c.put_text-count.ensures.behind, c.put_decimal-end.ensures.1, c.put_text.ensures.behind))
+    (wrote_then c.put_decimal-kind.ensures.0 (wrote_then c.put_number-end.ensures.0 c.put_text.ensures), omega (arith, c.put_decimal-kind.ensures.1, c.put_number-end.ensures.1, c.put_text.ensures.behind))

@@ -1,4 +1,5 @@
 use mathlib.Core.Path.{sym, ◌∙◌}
+use borrow.Author.Rules.{rules}
 use Rattle.listing.proofs.Lines.{points_free, went_points, is_gap, went_lost}
 use Rattle.listing.proofs.put_record.Goals as goal
 
@@ -14,8 +15,13 @@ returns-then-get8-eq1 c =
 pub returns-in_default : goal.returns-in_default
 returns-in_default c =
     let e = c.receive_gap-o.ensures.value ∙ is_gap c.args.r.now _ c.args.from.state c.requires.1 (λ e. c.if-get8-eq1.false (c.get8.ensures.0 ∙ e)) c.get32-n.ensures.0 in
-    absurd (c.in_default.not-Gap _ _ e)
+    search rules
+
+pub returns-in_default-2 : goal.returns-in_default-2
+returns-in_default-2 c =
+    let e = c.receive_gap-o.ensures.value ∙ is_gap c.args.r.now _ c.args.from.state c.requires.1 (λ e. c.if-get8-eq1.false (c.get8.ensures.0 ∙ e)) c.get32-n.ensures.0 in
+    search rules
 
 pub returns : goal.returns
 returns c =
-    went_lost c.args.r.now _ c.args.from.state c.requires.1 (λ e. c.if-get8-eq1.false (c.get8.ensures.0 ∙ e)) c.get32-n.ensures.0 _ _ _ c.receive_gap-o.ensures.told c.in-Gap.is c.put_lost-at.ensures.0
+    went_lost c.args.r.now _ c.args.from.state c.requires.1 (λ e. c.if-get8-eq1.false (c.get8.ensures.0 ∙ e)) c.get32-n.ensures.0 c.in-Ok-Gap.state _ c.in-Ok-Gap.field-0-0 c.receive_gap-o.ensures.told (search rules) c.put_lost-at.ensures.0

@@ -3,5 +3,5 @@ use mathlib.Core.Path.{sym}
 use native.Mathlib.Omega.{arith}
 use Rattle.octets.proofs.get16.Goals as goal
 
-pub returns : goal.returns
-returns c = (sym (u16_past c.args.s.now c.args.at c.if-at-s.false), omega arith)
+pub returns-else-at-s : goal.returns-else-at-s
+returns-else-at-s c = (sym (u16_past c.args.s.now c.args.at c.if-at-s.false), omega arith)

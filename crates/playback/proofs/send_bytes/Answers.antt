@@ -1,11 +1,12 @@
 use Prim.Native.Nat.{ℕ, ◌/◌}
-use mathlib.Core.Path.{sym, ap, ◌∙◌}
+use mathlib.Core.Path.{refl, sym, ap, ◌∙◌}
 use mathlib.Core.List.{List}
 use native.Mathlib.Omega.{arith}
 use lib.IntN.{pos}
 use lib.ListN.{length, replicate, length-replicate}
 use lib.Seq.{length-take-le}
 use Rattle.line.proofs.ByMode.{width_range}
+use Rattle.std.proofs.lemmas.Result.{err_from_is_err_and}
 use Rattle.sender.specs.Sender.{send_answer, send_numbers}
 use Rattle.playback.proofs.BlockLaws.{groups_in, sent_is}
 use Rattle.playback.proofs.CallLaws.{send_refused, send_fits, send_long, send_done}
@@ -24,7 +25,7 @@ pub returns-then-input-gt8192 : goal.returns-then-input-gt8192
 returns-then-input-gt8192 c =
     let e = sent_is c.args.s c.args.input.now _ c.width_of-w.ensures in
     let answer = send_long c.args.s c.args.input.now (replicate 8192 (pos 0)) _ (length-replicate 8192 (pos 0))
-    (c.send-sent.ensures.value ∙ ap (λ (x : List ℕ). send_answer c.args.s x (length (replicate 8192 (pos 0))) 0) e) _ c.in-Ready.is c.args.out.now c.if-input-gt8192.true in
+    (c.in_ok-next.ensures.value ∙ ap (λ (x : List ℕ). send_answer c.args.s x (length (replicate 8192 (pos 0))) 0) e) _ refl c.args.out.now c.if-input-gt8192.true in
     record { value = answer.0; out_after = answer.1 }
 
 pub overflow_mul-e : goal.overflow_mul-e
@@ -33,7 +34,7 @@ overflow_mul-e c =
     omega (
       arith,
       send_fits c.args.s c.args.input.now (replicate 8192 (pos 0)) _ (length-replicate 8192 (pos 0))
-          (c.send-sent.ensures.value ∙ ap (λ (x : List ℕ). send_answer c.args.s x (length (replicate 8192 (pos 0))) 0) e) _ c.in-Ready.is _ (ap (λ (w : ℕ). length c.args.input.now / w) c.width_of-w.ensures),
+          (c.in_ok-next.ensures.value ∙ ap (λ (x : List ℕ). send_answer c.args.s x (length (replicate 8192 (pos 0))) 0) e) _ refl _ (ap (λ (w : ℕ). length c.args.input.now / w) c.width_of-w.ensures),
     )
 
 pub slice_bounds-numbers-end : goal.slice_bounds-numbers-end
@@ -42,7 +43,7 @@ slice_bounds-numbers-end c =
     omega (
       arith,
       send_fits c.args.s c.args.input.now (replicate 8192 (pos 0)) _ (length-replicate 8192 (pos 0))
-          (c.send-sent.ensures.value ∙ ap (λ (x : List ℕ). send_answer c.args.s x (length (replicate 8192 (pos 0))) 0) e) _ c.in-Ready.is _ (ap (λ (w : ℕ). length c.args.input.now / w) c.width_of-w.ensures),
+          (c.in_ok-next.ensures.value ∙ ap (λ (x : List ℕ). send_answer c.args.s x (length (replicate 8192 (pos 0))) 0) e) _ refl _ (ap (λ (w : ℕ). length c.args.input.now / w) c.width_of-w.ensures),
     )
 
 pub slice_bounds-hand_over-end : goal.slice_bounds-hand_over-end
@@ -50,20 +51,25 @@ slice_bounds-hand_over-end c = sym (length-take-le _ _ (let e = sent_is c.args.s
     omega (
       arith,
       send_fits c.args.s c.args.input.now (replicate 8192 (pos 0)) _ (length-replicate 8192 (pos 0))
-          (c.send-sent.ensures.value ∙ ap (λ (x : List ℕ). send_answer c.args.s x (length (replicate 8192 (pos 0))) 0) e) _ c.in-Ready.is _ (ap (λ (w : ℕ). length c.args.input.now / w) c.width_of-w.ensures),
+          (c.in_ok-next.ensures.value ∙ ap (λ (x : List ℕ). send_answer c.args.s x (length (replicate 8192 (pos 0))) 0) e) _ refl _ (ap (λ (w : ℕ). length c.args.input.now / w) c.width_of-w.ensures),
     )))
 
-pub returns-in-Refused : goal.returns-in-Refused
-returns-in-Refused c =
+pub returns-in_err-next-clause-value : goal.returns-in_err-next-clause-value
+returns-in_err-next-clause-value c =
     let e = sent_is c.args.s c.args.input.now _ c.width_of-w.ensures in
-    let answer = send_refused c.args.s c.args.input.now (replicate 8192 (pos 0)) _ (length-replicate 8192 (pos 0))
-    (c.send-sent.ensures.value ∙ ap (λ (x : List ℕ). send_answer c.args.s x (length (replicate 8192 (pos 0))) 0) e) _ c.args.out.now c.in-Refused.is in
-    record { value = answer.0; out_after = answer.1 }
+    let p = err_from_is_err_and c.from_residual.result c.from_residual.ensures.1 in rw (p.1, p.2) (send_refused c.args.s c.args.input.now (replicate 8192 (pos 0)) _ (length-replicate 8192 (pos 0))
+    (c.in_err-next.ensures.value ∙ ap (λ (x : List ℕ). send_answer c.args.s x (length (replicate 8192 (pos 0))) 0) e) _ c.args.out.now refl).0
 
-pub returns-else-input-gt8192 : goal.returns-else-input-gt8192
-returns-else-input-gt8192 c =
+pub returns-in_err-next-clause-out_after : goal.returns-in_err-next-clause-out_after
+returns-in_err-next-clause-out_after c =
+    let e = sent_is c.args.s c.args.input.now _ c.width_of-w.ensures in
+    (send_refused c.args.s c.args.input.now (replicate 8192 (pos 0)) _ (length-replicate 8192 (pos 0))
+    (c.in_err-next.ensures.value ∙ ap (λ (x : List ℕ). send_answer c.args.s x (length (replicate 8192 (pos 0))) 0) e) _ c.args.out.now refl).1
+
+pub returns : goal.returns
+returns c =
     let e = sent_is c.args.s c.args.input.now _ c.width_of-w.ensures in
     let answer = send_done c.args.s c.args.input.now (replicate 8192 (pos 0)) _ (length-replicate 8192 (pos 0))
-    (c.send-sent.ensures.value ∙ ap (λ (x : List ℕ). send_answer c.args.s x (length (replicate 8192 (pos 0))) 0) e) _ c.in-Ready.is _ _ c.args.out.now _ _ (ap (λ (w : ℕ). length c.args.input.now / w) c.width_of-w.ensures) c.if-input-gt8192.false
-    (c.send-sent.ensures.out_after ∙ ap (λ (x : List ℕ). send_numbers c.args.s x (replicate 8192 (pos 0)) 0) e) c.hand_over.ensures.value c.hand_over.ensures.out_after in
+    (c.in_ok-next.ensures.value ∙ ap (λ (x : List ℕ). send_answer c.args.s x (length (replicate 8192 (pos 0))) 0) e) _ refl _ _ c.args.out.now _ _ (ap (λ (w : ℕ). length c.args.input.now / w) c.width_of-w.ensures) c.if-input-gt8192.false
+    (c.in_ok-next.ensures.out_after ∙ ap (λ (x : List ℕ). send_numbers c.args.s x (replicate 8192 (pos 0)) 0) e) c.hand_over.ensures.value c.hand_over.ensures.out_after in
     record { value = answer.0; out_after = answer.1 }

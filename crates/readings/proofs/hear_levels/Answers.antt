@@ -1,35 +1,32 @@
-use Prim.Native.Nat.{◌+◌, ◌*◌, ◌-◌}
-use mathlib.Core.Path.{refl}
-use native.Mathlib.Omega.{arith}
-use lib.ListN.{drop, length-map}
-use borrow.Author.Rules.{rules}
-use Rattle.line.proofs.TableLaws.{every_take, every_drop}
-use Rattle.levels.specs.Levels.{in_reach}
+use Prim.Native.Nat.{◌/◌}
+use mathlib.Core.Path.{sym, ap, ◌∙◌}
+use mathlib.Core.List.{map}
+use lib.ListN.{length}
+use lib.Seq.{length-sets}
+use Rattle.levels.specs.Levels.{rounded}
 use Rattle.bulk.specs.Block.{parts}
-use Rattle.bulk.proofs.BlockLaws.{hearing_start, hearing_end}
-use Rattle.readings.proofs.LevelLaws.{run_within, run_held, run_some, run_length, levels-heard, levels_long, levels-count}
+use Rattle.readings.proofs.LevelLaws.{chunk_even, chunk_some, chunk_held, chunk_reached, chunk_rest, levels-heard}
 use Rattle.readings.proofs.hear_levels.Goals as goal
-
-pub loop-k-init : goal.loop-k-init
-loop-k-init c = (hearing_start _ _ _ 0 (omega arith) c.requires.2, refl)
 
 pub put_units-requires : goal.put_units-requires
 put_units-requires c =
-    let f = run_held _ c.loop-k.k _ _ c.lesser-m.ensures in
-    let n = run_length c.args.levels.now c.loop-k.k _ (run_within _ c.loop-k.k _ _ c.lesser-m.ensures (search rules)) in
-    (every_take in_reach (2 * (c.loop-k.k + c.lesser-m.result) - 2 * c.loop-k.k) (drop (2 * c.loop-k.k) c.args.levels.now) (every_drop in_reach (2 * c.loop-k.k) c.args.levels.now c.requires.0), omega (arith, n, f, c.loop-k.invariant.1))
+    let i = c.loop-part.invariant in
+    let f = c.in-Some.ensures.steps.1 in
+    let size = i.3 in
+    let held = chunk_held c.args.levels.now _ c.in-Some.part.now _ c.loop-part.k (length c.args.units.now) _ i.2 size c.requires.1 c.requires.2 f.0 f.1 f.2 in
+    (chunk_reached c.args.levels.now _ c.in-Some.part.now _ c.loop-part.k (length c.args.units.now) _ i.2 size c.requires.1 c.requires.2 f.0 f.1 f.2 c.requires.0, rw i.1 held)
 
-pub slice_bounds-receive_points-end-in-loop-k : goal.slice_bounds-receive_points-end-in-loop-k
-slice_bounds-receive_points-end-in-loop-k c = levels-count c.args.s (parts c.args.line.now c.args.plain.now c.args.distance.now) c.args.levels.now c.loop-k.t (parts c.loop-k.line c.loop-k.plain c.loop-k.distance) c.loop-k.k _ _ c.loop-k.invariant.0 c.requires.3 c.loop-k.units _ c.loop-k-test.true c.lesser-m.ensures c.loop-k.invariant.1 c.put_units.ensures
-
-pub overflow_add-k : goal.overflow_add-k
-overflow_add-k c = let l = run_within _ c.loop-k.k _ _ c.lesser-m.ensures (search rules) in omega (arith, l, c.well_formed)
-
-pub loop-k-smaller : goal.loop-k-smaller
-loop-k-smaller c = let m = run_some _ c.loop-k.k _ _ c.lesser-m.ensures c.loop-k-test.true c.requires.1 in omega (arith, m, c.loop-k-test.true)
-
-pub loop-k-preserved : goal.loop-k-preserved
-loop-k-preserved c = (levels-heard c.args.s (parts c.args.line.now c.args.plain.now c.args.distance.now) c.args.levels.now c.loop-k.t (parts c.loop-k.line c.loop-k.plain c.loop-k.distance) c.loop-k.k _ _ c.loop-k.invariant.0 c.requires.3 c.loop-k.units _ c.loop-k-test.true c.lesser-m.ensures c.loop-k.invariant.1 c.put_units.ensures _ _ _ c.requires.1 c.receive_points-b.ensures.told c.receive_points-b.ensures.value.1 c.state_after-u.ensures, levels_long c.args.s (parts c.args.line.now c.args.plain.now c.args.distance.now) c.args.levels.now c.loop-k.t (parts c.loop-k.line c.loop-k.plain c.loop-k.distance) c.loop-k.k _ _ c.loop-k.invariant.0 c.requires.3 c.loop-k.units _ c.loop-k-test.true c.lesser-m.ensures c.loop-k.invariant.1 c.put_units.ensures)
-
-pub returns : goal.returns
-returns c = hearing_end _ _ _ 0 c.loop-k.t _ c.loop-k.k c.loop-k.invariant.0 (simp length-map c.loop-k-test.false)
+pub loop-part-preserved : goal.loop-part-preserved
+loop-part-preserved c =
+    let i = c.loop-part.invariant in
+    let f = c.in-Some.ensures.steps.1 in
+    let held = chunk_held c.args.levels.now _ c.in-Some.part.now _ c.loop-part.k (length c.args.units.now) _ i.2 i.3 c.requires.1 c.requires.2 f.0 f.1 f.2 in (
+      levels-heard c.args.s (parts c.args.line.now c.args.plain.now c.args.distance.now) c.args.levels.now c.loop-part.t (parts c.loop-part.line c.loop-part.plain c.loop-part.distance) c.loop-part.k (length c.in-Some.part.now / 2) i.0 c.requires.4
+          c.loop-part.units _ c.in-Some.part.now _ (sym i.2 ∙ f.0)
+          (chunk_even c.args.levels.now _ c.in-Some.part.now _ c.loop-part.k (length c.args.units.now) _ i.2 i.3 c.requires.1 c.requires.2 f.0 f.1 f.2)
+          (chunk_some c.args.levels.now _ c.in-Some.part.now _ c.loop-part.k (length c.args.units.now) _ i.2 i.3 c.requires.1 c.requires.2 f.0 f.1 f.2)
+          (rw i.1 held) c.put_units.ensures _ _ _ c.receive_points.ensures.told c.receive_points.ensures.value.1 c.unwrap_or-t.ensures,
+      ap length c.put_units.ensures ∙ length-sets c.loop-part.units 0 (map rounded c.in-Some.part.now) ∙ i.1,
+      chunk_rest c.args.levels.now _ c.in-Some.part.now _ c.loop-part.k (length c.args.units.now) _ i.2 i.3 c.requires.1 c.requires.2 f.0 f.1 f.2,
+      c.in-Some.ensures.steps.0 ∙ i.3,
+    )

@@ -18,17 +18,8 @@ overflow_mul-n c = omega (arith, mul-le-mul_left c.args.h.bits c.group_size.ensu
 pub overflow_add-n : goal.overflow_add-n
 overflow_add-n c = omega (arith, mul-le-mul_left c.args.h.bits c.group_size.ensures.upper_bound)
 
-pub overflow_sub-full : goal.overflow_sub-full
-overflow_sub-full c = omega (arith, width_range c.args.mode, capacity_range c.args.mode)
-
-pub returns-then-full-w : goal.returns-then-full-w
-returns-then-full-w c =
+pub returns : goal.returns
+returns c =
     let l = c.low_bits-low.ensures.value ∙ ap (λ (w : ℕ). c.args.g % 2 ^ w) (width-column c.args.mode _ c.column_of.ensures) in
-    let p = push_law c.args.mode c.args.h c.args.g _ _ _ _ _ c.capacity_of-full.result c.width_of-w.ensures c.capacity_of-full.ensures l c.group_size.ensures.value c.keep_of-bits.ensures (omega (arith, width_range c.args.mode, capacity_range c.args.mode)) in
-    (p.0, p.1, refl)
-
-pub returns-else-full-w : goal.returns-else-full-w
-returns-else-full-w c =
-    let l = c.low_bits-low.ensures.value ∙ ap (λ (w : ℕ). c.args.g % 2 ^ w) (width-column c.args.mode _ c.column_of.ensures) in
-    let p = push_law c.args.mode c.args.h c.args.g _ _ _ _ _ (c.args.h.held.0 + c.width_of-w.result) c.width_of-w.ensures c.capacity_of-full.ensures l c.group_size.ensures.value c.keep_of-bits.ensures (omega (arith, width_range c.args.mode, capacity_range c.args.mode)) in
+    let p = push_law c.args.mode c.args.h c.args.g _ _ _ _ _ c.min-more.result c.width_of-w.ensures c.capacity_of-full.ensures l c.group_size.ensures.value c.keep_of-bits.ensures (omega (arith, width_range c.args.mode, capacity_range c.args.mode)) in
     (p.0, p.1, refl)

@@ -14,15 +14,7 @@ overflow_mul-n c = omega (arith, mul-le-mul_left c.args.h.bits c.group_size.ensu
 pub overflow_add-n : goal.overflow_add-n
 overflow_add-n c = omega (arith, mul-le-mul_left c.args.h.bits c.group_size.ensures.upper_bound)
 
-pub overflow_sub-full : goal.overflow_sub-full
-overflow_sub-full c = omega (arith, width_range c.args.c, capacity_range c.args.c)
-
-pub returns-then-full-w : goal.returns-then-full-w
-returns-then-full-w c =
+pub returns : goal.returns
+returns c =
     push_plain c.args.c c.args.h c.args.g _ _ (not-guarded c.args.c c.requires)
-    (push_law c.args.c c.args.h c.args.g _ _ _ _ _ c.capacity_in-full.result c.width_in-w.ensures c.capacity_in-full.ensures c.low_bits-low.ensures.value c.group_size.ensures.value c.keep_bits-bits.ensures (omega (arith, width_range c.args.c, capacity_range c.args.c)))
-
-pub returns-else-full-w : goal.returns-else-full-w
-returns-else-full-w c =
-    push_plain c.args.c c.args.h c.args.g _ _ (not-guarded c.args.c c.requires)
-    (push_law c.args.c c.args.h c.args.g _ _ _ _ _ (c.args.h.held.0 + c.width_in-w.result) c.width_in-w.ensures c.capacity_in-full.ensures c.low_bits-low.ensures.value c.group_size.ensures.value c.keep_bits-bits.ensures (omega (arith, width_range c.args.c, capacity_range c.args.c)))
+    (push_law c.args.c c.args.h c.args.g _ _ _ _ _ c.min-more.result c.width_in-w.ensures c.capacity_in-full.ensures c.low_bits-low.ensures.value c.group_size.ensures.value c.keep_bits-bits.ensures (omega (arith, width_range c.args.c, capacity_range c.args.c)))

@@ -1,8 +1,10 @@
+use Rattle.std.specs.Slice.Iter.{chunks_exact_rest, chunks_exact_size}
+use Rattle.std.specs.Iterator.Adapters.{enumerate_source, enumerate_count}
+use mathlib.Core.Path.{◌≡◌}
 use Rattle.sender.proofs.SendLaws.{Left, carrying}
 use Rattle.sender.proofs.write_points.Given as goal
 
-abbrev pub invariant-loop-left : goal.invariant-loop-left
-invariant-loop-left l = Left l.mode l.w l.input l.s l.initial.left l.initial.out (carrying l.s l.reference l.bits) l.out l.at l.k l.left
-
-abbrev pub decreases-loop-left : goal.decreases-loop-left
-decreases-loop-left l = l.left
+abbrev pub invariant-loop-k : goal.invariant-loop-k
+invariant-loop-k l =
+    (chunks_exact_size (enumerate_source l.k-iterator) ≡ l.w)
+    × Left l.mode l.w l.input l.s l.initial.out (carrying l.s l.reference l.bits) l.out (enumerate_count l.k-iterator) (chunks_exact_rest (enumerate_source l.k-iterator))

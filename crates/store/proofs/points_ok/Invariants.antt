@@ -7,6 +7,3 @@ use Rattle.store.proofs.points_ok.Given as goal
 
 abbrev pub invariant-loop-k : goal.invariant-loop-k
 invariant-loop-k l = (l.k ≤ 7) × (points_in (drop 4 l.r) 7 ≡ (l.fine && points_in (drop (4 + 4 * l.k) l.r) (7 - l.k)))
-
-abbrev pub decreases-loop-k : goal.decreases-loop-k
-decreases-loop-k l = 7 - l.k

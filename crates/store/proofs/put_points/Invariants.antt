@@ -8,6 +8,3 @@ use Rattle.store.proofs.put_points.Given as goal
 
 abbrev pub invariant-loop-k : goal.invariant-loop-k
 invariant-loop-k l = (l.k ≤ l.n) × (length l.out ≡ length l.initial.out) × (sets l.out (l.at + 3 * l.k) (numbers (points (drop (4 + 4 * l.k) l.r) (l.n - l.k))) ≡ sets l.initial.out l.at (numbers (points (drop 4 l.r) l.n)))
-
-abbrev pub decreases-loop-k : goal.decreases-loop-k
-decreases-loop-k l = l.n - l.k

@@ -5,23 +5,8 @@ use Rattle.summing.proofs.origins_in.Goals as goal
 pub loop-k-init : goal.loop-k-init
 loop-k-init c = counted_start c.args.r.now c.args.n
 
-pub overflow_mul-k : goal.overflow_mul-k
-overflow_mul-k c = omega arith
-
-pub overflow_add-k : goal.overflow_add-k
-overflow_add-k c = omega arith
-
-pub origin_at-origins-requires : goal.origin_at-origins-requires
-origin_at-origins-requires c = tt
-
 pub overflow_add-origins : goal.overflow_add-origins
 overflow_add-origins c = omega (arith, c.loop-k.invariant.1, c.origin_at-origins.ensures.1)
-
-pub overflow_add-k-in-loop-k : goal.overflow_add-k-in-loop-k
-overflow_add-k-in-loop-k c = omega arith
-
-pub loop-k-smaller : goal.loop-k-smaller
-loop-k-smaller c = omega arith
 
 pub loop-k-preserved : goal.loop-k-preserved
 loop-k-preserved c =

@@ -1,17 +1,12 @@
-use native.Mathlib.Omega.{arith}
-use Rattle.store.proofs.Views.{told_refused, told_viewed}
+use mathlib.Core.Path.{sym, ap, ◌∙◌}
+use Rattle.std.proofs.lemmas.Result.{err_from_is_err_and}
+use Rattle.store.specs.Store.{events, refusal}
+use Rattle.summing.specs.Sums.{sums_of}
 use Rattle.summing.proofs.Walks.{sums_refused, sums_given}
 use Rattle.summing.proofs.sums.Goals as goal
 
-pub chain_sums-requires : goal.chain_sums-requires
-chain_sums-requires c = (told_viewed c.args.store.now _ _ c.inspect.ensures c.in-Accepted.is).accepted
+pub returns-in_err-track : goal.returns-in_err-track
+returns-in_err-track c = let p = err_from_is_err_and c.from_residual.result c.from_residual.ensures.1 in rw (p.1, p.2) (sums_refused c.args.store.now _ c.in_err-track.ensures)
 
-pub returns-in-Refused : goal.returns-in-Refused
-returns-in-Refused c =
-    let t = told_refused c.args.store.now _ _ c.inspect.ensures c.in-Refused.is in
-    sums_refused c.args.store.now _ t.0 t.1
-
-pub returns-in-Accepted : goal.returns-in-Accepted
-returns-in-Accepted c =
-    let w = told_viewed c.args.store.now _ _ c.inspect.ensures c.in-Accepted.is in
-    sums_given c.args.store.now _ w.accepted (omega (arith, w.total_is, w.small.2)) c.chain_sums.ensures.0 c.chain_sums.ensures.1
+pub returns : goal.returns
+returns c = let e = c.in_ok-track.ensures in sums_given c.args.store.now _ (ap refusal (sym e) ∙ c.in_ok-track.track.accepted) (c.chain_sums.ensures.0 ∙ ap (λ s. sums_of (events s)) e) c.chain_sums.ensures.1

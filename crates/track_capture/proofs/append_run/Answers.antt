@@ -1,4 +1,4 @@
-use mathlib.Core.Path.{refl}
+use mathlib.Core.Path.{refl, sym, ◌∙◌}
 use native.Mathlib.Omega.{arith}
 use lib.ListN.{length-take}
 use Rattle.track_capture.proofs.EventLaws.{goes_none, run_goes, run_refused}
@@ -11,10 +11,10 @@ pub slice_bounds-append_points-end : goal.slice_bounds-append_points-end
 slice_bounds-append_points-end c =
     simp length-take (omega (arith, c.run_at-run.ensures.long, c.run_at-run.ensures.few))
 
-pub returns-then-append_points-eq0 : goal.returns-then-append_points-eq0
-returns-then-append_points-eq0 c =
-    (run_goes _ _ _ _ _ _ c.run_at-run.ensures c.append_points.ensures.0 c.append_points.ensures.1 c.if-append_points-eq0.true, c.run_at-run.ensures.few)
+pub returns-then-is_ok : goal.returns-then-is_ok
+returns-then-is_ok c =
+    (run_goes _ _ _ _ _ _ c.run_at-run.ensures c.append_points.ensures.0 c.append_points.ensures.1 (sym c.is_ok.ensures.value ∙ c.if-is_ok.true), c.run_at-run.ensures.few)
 
 pub returns : goal.returns
 returns c =
-    (run_refused _ _ _ _ _ _ c.run_at-run.ensures c.append_points.ensures.0 c.append_points.ensures.1 c.if-append_points-eq0.false, omega arith)
+    (run_refused _ _ _ _ _ _ c.run_at-run.ensures c.append_points.ensures.0 c.append_points.ensures.1 (sym c.is_ok.ensures.value ∙ c.if-is_ok.false), omega arith)

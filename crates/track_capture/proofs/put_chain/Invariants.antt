@@ -1,12 +1,5 @@
-use Prim.Native.Nat.{◌-◌}
-use mathlib.Core.Path.{◌≡◌}
-use lib.ListN.{length}
-use Rattle.store.specs.Layout.{count}
 use Rattle.track_capture.proofs.CaptureLaws.{Copying}
 use Rattle.track_capture.proofs.put_chain.Given as goal
 
-abbrev pub invariant-loop-i : goal.invariant-loop-i
-invariant-loop-i l = (length l.out ≡ length l.initial.out) × Copying l.s l.initial.out l.out l.at l.k l.i
-
-abbrev pub decreases-loop-i : goal.decreases-loop-i
-decreases-loop-i l = count l.s - l.k
+abbrev pub invariant-loop-record : goal.invariant-loop-record
+invariant-loop-record l = Copying l.fn.track.bytes.now l.initial.out l.out l.at l.record-iterator

@@ -1,4 +1,4 @@
-use Prim.Native.Nat.{◌+◌, ◌*◌, ◌-◌, ◌≤◌}
+use Prim.Native.Nat.{◌+◌, ◌*◌}
 use mathlib.Core.Path.{◌≡◌}
 use lib.ListN.{length, drop}
 use lib.Seq.{sets}
@@ -8,7 +8,4 @@ use Rattle.track_capture.proofs.CaptureLaws.{points_left}
 use Rattle.track_capture.proofs.put_points.Given as goal
 
 abbrev pub invariant-loop-k : goal.invariant-loop-k
-invariant-loop-k l = (l.k ≤ l.n) × (length l.out ≡ length l.initial.out) × (sets l.out (l.at + 4 * l.k) (points_left l.r l.n l.k) ≡ sets l.initial.out l.at (captured (points (drop 4 l.r) l.n)))
-
-abbrev pub decreases-loop-k : goal.decreases-loop-k
-decreases-loop-k l = l.n - l.k
+invariant-loop-k l = (length l.out ≡ length l.initial.out) × (sets l.out (l.at + 4 * l.k) (points_left l.r l.n l.k) ≡ sets l.initial.out l.at (captured (points (drop 4 l.r) l.n)))

@@ -1,22 +1,23 @@
-use mathlib.Core.Path.{refl}
+use mathlib.Core.Path.{◌∙◌, subst⁻¹}
+use mathlib.Core.List.{List}
+use Prim.Native.Nat.{ℕ}
+use lib.Dec.{T}
 use native.Mathlib.Omega.{arith}
-use Rattle.v41.proofs.Loops.{eight_part, eight_go, rest_part, rest_end}
+use Rattle.line.specs.Table.{every}
+use Rattle.line.proofs.TableLaws.{every_drop}
+use Rattle.scrambler.specs.Bits.{is_bit}
+use Rattle.v41.proofs.Loops.{eight_bits, eights_more, eights_go}
 use Rattle.v41.proofs.divide.Goals as goal
 
-pub loop-i-init : goal.loop-i-init
-loop-i-init c = (omega arith, omega arith, refl)
-
-pub number_of-requires : goal.number_of-requires
-number_of-requires c = eight_part c.args.input.now c.loop-i.i c.requires c.loop-i-test.true
-
-pub shift_eight-r-requires : goal.shift_eight-r-requires
-shift_eight-r-requires c = (c.loop-i.invariant.1, c.number_of.ensures.1)
-
-pub loop-i-preserved : goal.loop-i-preserved
-loop-i-preserved c = (omega arith, c.shift_eight-r.ensures.1, eight_go c.args.input.now c.loop-i.i c.requires c.loop-i.r _ _ _ c.loop-i-test.true c.number_of.ensures.0 c.shift_eight-r.ensures.0 c.loop-i.invariant.2)
+pub loop-eight-preserved : goal.loop-eight-preserved
+loop-eight-preserved c =
+    let front = c.in-Some.ensures.steps.1.0 in
+    let long = c.in-Some.ensures.steps.1.1 in (
+      c.shift_eight-r.ensures.1,
+      omega arith,
+      eights_more _ _ _ _ c.loop-eight.invariant.2 front (long ∙ c.loop-eight.invariant.1),
+      eights_go _ _ _ _ _ _ _ (eight_bits _ _ _ _ c.requires c.loop-eight.invariant.2 front) front (long ∙ c.loop-eight.invariant.1) c.number_of.ensures.0 c.shift_eight-r.ensures.0 c.loop-eight.invariant.3,
+    )
 
 pub divide_bits-requires : goal.divide_bits-requires
-divide_bits-requires c = (c.loop-i.invariant.1, rest_part c.args.input.now c.loop-i.i c.requires)
-
-pub returns : goal.returns
-returns c = (rest_end c.args.input.now c.loop-i.i c.loop-i.r _ _ c.divide_bits.ensures.0 c.loop-i.invariant.2, c.divide_bits.ensures.1)
+divide_bits-requires c = (c.loop-eight.invariant.0, subst⁻¹ (λ (s : List ℕ). T (every is_bit s)) (c.remainder-rest.ensures ∙ c.chunks_exact-eights.ensures.remainder) (every_drop is_bit _ _ c.requires))

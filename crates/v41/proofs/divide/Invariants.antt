@@ -1,11 +1,9 @@
-use Prim.Native.Nat.{◌-◌, ◌≤◌, ◌<◌}
+use Prim.Native.Nat.{◌<◌}
 use mathlib.Core.Path.{◌≡◌}
-use lib.ListN.{length, drop}
+use Rattle.std.specs.Slice.Iter.{chunks_exact_rest, chunks_exact_size}
 use Rattle.v41.specs.Register.{register}
+use Rattle.v41.proofs.Loops.{Eights}
 use Rattle.v41.proofs.divide.Given as goal
 
-abbrev pub invariant-loop-i : goal.invariant-loop-i
-invariant-loop-i l = (l.i ≤ length l.input) × (l.r < 65536) × (register l.r (drop l.i l.input) ≡ register 0 l.input)
-
-abbrev pub decreases-loop-i : goal.decreases-loop-i
-decreases-loop-i l = length l.input - l.i
+abbrev pub invariant-loop-eight : goal.invariant-loop-eight
+invariant-loop-eight l = (l.r < 65536) × (chunks_exact_size l.eight-iterator ≡ 8) × Eights l.input (chunks_exact_rest l.eight-iterator) × (register l.r (chunks_exact_rest l.eight-iterator) ≡ register 0 l.input)

@@ -1,8 +1,9 @@
-use Rattle.listing.proofs.Streams.{sums_over, sums_within}
+use mathlib.Core.Path.{◌≡◌}
+use borrow.Author.Rules.{rules}
+use Rattle.listing.proofs.Streams.{sums_within}
 use Rattle.listing.proofs.stream.sums_ok.Goals as goal
 
-pub returns-then-intervals-points : goal.returns-then-intervals-points
-returns-then-intervals-points c = sums_over c.args.v c.args.place c.if-intervals-points.true
-
 pub returns : goal.returns
-returns c = sums_within c.args.v c.args.place c.if-intervals-points.false
+returns c =
+    let e : c.from.result ≡ c.args.place = search rules in
+    sums_within c.args.v c.args.place _ _ c.saturating_add.ensures e (search rules)

@@ -1,4 +1,0 @@
-use Rattle.kerambiu.proofs.kerambiu_receive_hole.Goals as goal
-
-pub returns : goal.returns
-returns c = c.receive_reading.ensures

@@ -1,8 +1,0 @@
-use Rattle.listing.proofs.Digits.{Counting}
-use Rattle.listing.proofs.digit_count.Given as goal
-
-abbrev pub invariant-loop-rest : goal.invariant-loop-rest
-invariant-loop-rest l = Counting l.n l.k l.rest
-
-abbrev pub decreases-loop-rest : goal.decreases-loop-rest
-decreases-loop-rest l = l.rest
