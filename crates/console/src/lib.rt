@@ -2,7 +2,7 @@
 // went well, else one line, by which the front tells a sentence and a status.
 #![tactic(auto)]
 
-ghost use Rattle.std.specs.Prelude.{◌≡◌, IfOk, OnErr, take};
+ghost use Rattle.std.specs.Prelude.{◌≡◌, IfErr, IfOk, OnErr, take};
 ghost use Rattle.std.specs.Counts.{IsPrefixLen};
 ghost use Rattle.console.specs.declared.Stop.TheVariants.{Refused};
 ghost use Rattle.console.specs.Reading.{Behind, Carried};
@@ -60,18 +60,34 @@ pub fn read_more<R: Read>(input: &mut R, buf: &mut [u8], have: usize) -> Result<
     }
 }
 
+// Why a buffer was not filled: what stopped the reading, and how many bytes had come before it.
+#[derive(Drop)]
+pub struct Unread {
+    pub stop: Stop,
+    pub count: usize,
+}
+
+impl From<Unread> for Stop {
+    ghost from_gives = { λ unread stop. stop ≡ unread.stop };
+
+    fn from(unread: Unread) -> Stop {
+        unread.stop
+    }
+}
+
 // Reads until `buf` is full or the input ends; how many bytes came.
-fn read_whole<R: Read>(input: &mut R, buf: &mut [u8]) -> Result<usize, Stop>
-    ensures { IfOk result (λ n. IsPrefixLen n buf.new) }
+pub fn read_whole<R: Read>(input: &mut R, buf: &mut [u8]) -> Result<usize, Unread>
+    ensures ok { IfOk result (λ n. IsPrefixLen n buf.new) }
+    ensures err { IfErr result (λ unread. IsPrefixLen unread.count buf.new) }
 {
     let mut have = 0;
     // No `for`: a turn goes on by as many bytes as came.
     while have < buf.len() {
-        let came = read_more(input, buf, have)?;
-        if came.count <= have {
-            break;
+        match read_more(input, buf, have) {
+            Ok(came) if have < came.count => have = came.count,
+            Ok(_) => break,
+            Err(stop) => return Err(Unread { stop, count: have }),
         }
-        have = came.count;
     }
     Ok(have)
 }
@@ -99,8 +115,9 @@ fn skip_rest<R: Read>(input: &mut R) {
 }
 
 // Reads what `buf` holds, and passes over the rest of the input; how many bytes of `buf` came.
-pub fn read_kept<R: Read>(input: &mut R, buf: &mut [u8]) -> Result<usize, Stop>
-    ensures { IfOk result (λ n. IsPrefixLen n buf.new) }
+pub fn read_kept<R: Read>(input: &mut R, buf: &mut [u8]) -> Result<usize, Unread>
+    ensures ok { IfOk result (λ n. IsPrefixLen n buf.new) }
+    ensures err { IfErr result (λ unread. IsPrefixLen unread.count buf.new) }
 {
     let count = read_whole(input, buf)?;
     if count == buf.len() {

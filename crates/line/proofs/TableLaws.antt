@@ -1,13 +1,14 @@
 -- A test over a list, computed once, and the law that carries it to each member. Assumes nothing.
-use mathlib.Core.Path.{◌≡◌, refl, sym, ap, subst}
-use mathlib.Core.Bool.{Bool, true, false, ◌&&◌, ◌||◌, not, cond}
+use mathlib.Core.Path.{◌≡◌, refl, sym, ap, ap₂, ◌∙◌, subst}
+use mathlib.Core.Bool.{Bool, true, false, ◌&&◌, ◌||◌, not, cond, and-true, and_assoc}
 use mathlib.Core.List.{List, [], ◌∷◌, ◌++◌, map}
 use Prim.Native.Nat.{ℕ, zero, suc, ◌+◌, ◌%◌, ◌<◌, ◌≤◌}
 use native.Mathlib.Nat.{not-suc-le-zero, mod-lt}
 use native.Mathlib.Omega.{arith}
 use borrow.Author.Tests.{eqb-false}
 use lib.Dec.{T, eqb, ltb, eqb→eq, ltb→lt}
-use lib.ListN.{length, get_or, take, drop}
+use lib.ListN.{length, get_or, take, drop, drop_of_length-le}
+use lib.Seq.{drop-cons}
 use Rattle.line.specs.Table.{entry, row_from, member, below, every}
 
 pub and_left : (a b : Bool) → T (a && b) → T a
@@ -76,6 +77,16 @@ module _ {A : Type 0} (f : A → Bool) where
   every-placed none k [] h t = absurd (not-suc-le-zero h)
   every-placed none zero (x ∷ xs) h t = and_left (f x) (every f xs) t
   every-placed none (suc k) (x ∷ xs) h t = every-placed none k xs (omega arith) (and_right (f x) (every f xs) t)
+
+-- a loop that looks at one member after the other: those before k were looked at, and `all` says whether each passed
+module _ {A : Type 0} (f : A → Bool) (none : A) (xs : List A) (k : ℕ) (all : Bool) (e : every f xs ≡ all && every f (drop k xs)) where
+  pub every-step : (b : Bool) → k < length xs → b ≡ f (get_or xs k none) → every f xs ≡ (all && b) && every f (drop (k + 1) xs)
+  every-step b h q =
+      e ∙ ap (λ (l : List A). all && every f l) (drop-cons xs k none h) ∙ sym (and_assoc all (f (get_or xs k none)) (every f (drop (suc k) xs)))
+      ∙ ap₂ (λ (c : Bool) (n : ℕ). (all && c) && every f (drop n xs)) (sym q) (let i : suc k ≡ k + 1 = omega arith in i)
+
+  pub every_end : length xs ≤ k → all ≡ every f xs
+  every_end h = sym (e ∙ ap (λ (l : List A). all && every f l) (drop_of_length-le xs h) ∙ and-true all)
 
 -- a part of a list, mapped
 pub map-take : {A B : Type 0} (f : A → B) (n : ℕ) (xs : List A) → map f (take n xs) ≡ take n (map f xs)

@@ -26,7 +26,7 @@ number StoreFull = 17
 number NotFinite = 18
 number BlockSize = 19
 
--- the refusal of a number; of one that is not in the list, one that nothing speaks of
+-- the refusal of a number of the list; of any other, which no call gives, that of a block's size
 unfoldable pub named : ℕ → Refusal
 named n =
     get_or (Mode ∷ Role ∷ TrainingLength ∷ State ∷ Bit ∷ BitCount ∷ Lent ∷ Coordinate ∷ NoIntervals ∷ BlockSize

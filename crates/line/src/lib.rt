@@ -9,6 +9,7 @@ ghost use Rattle.line.specs.Refusal.{numbered, mode_refusal};
 
 pub use refusal::{Refusal, need, number_of, or_next};
 
+pub mod numbers; // refusals as bare numbers
 mod refusal; // why a call is refused
 
 // A point: 1024 to one level.

@@ -10,13 +10,13 @@ use lib.Dec.{leb}
 use lib.ListN.{length, drop, length-append, length-drop}
 use lib.Seq.{sets, drop-drop}
 use Rattle.line.specs.declared.refusal.Refusal.{Refusal}
-use Rattle.line.specs.Refusal.{need, or_next, accepted}
-use Rattle.line.proofs.RefusalLaws.{need-zero, next-first, or_zero}
+use Rattle.line.specs.Refusal.{named, need, or_next, accepted}
+use Rattle.line.proofs.RefusalLaws.{Listed, listed_need, listed_next, need-zero, next-first, or_zero}
 use Rattle.line.proofs.Tests.{by_test, and_split}
 use Rattle.receiver.specs.declared.Receiver.{Receiver}
-use Rattle.receiver.specs.Receiver.{state_refusal, refusal, answer, next}
-use Rattle.receiver.proofs.OutcomeLaws.{accepted-placed}
-use Rattle.store.specs.Layout.{Event}
+use Rattle.receiver.specs.Receiver.{state_refusal, event_refusal, refusal, answer, next}
+use Rattle.receiver.proofs.OutcomeLaws.{listed_mode, accepted-placed}
+use Rattle.store.specs.Layout.{Event, point, lost}
 use Rattle.summing.specs.declared.EventSums.{EventSums}
 use Rattle.summing.specs.Sums.{sums_of, plus, Small}
 use Rattle.summing.proofs.SumLaws.{parts_add, plus_assoc, plus_none}
@@ -26,7 +26,7 @@ use Rattle.capture.specs.declared.Event.{Event as Read}
 use Rattle.capture.specs.Capture.{first, size, events_in, event_of, told}
 use Rattle.listing.specs.declared.stream.ListedEvents.{ListedEvents}
 use Rattle.listing.specs.Text.{line_text, taken, lines}
-use Rattle.listing.specs.Stream.{until_refused, first_refused, sums_ok, longest_block, block_refusal, block_events, block_taken, refusal_of, listed_events, listed_bytes}
+use Rattle.listing.specs.Stream.{until_refused, first_refused, sums_ok, longest_block, block_refusal, block_events, block_taken, refusal_of, number_in, listed_events, listed_bytes}
 use Rattle.listing.specs.Onward.{first_of, unless, begun, more_lines, onward}
 use Rattle.listing.proofs.Writes.{Rest, rest_all, rest_then, rest_none}
 use Rattle.listing.proofs.Lengths.{event_long}
@@ -246,3 +246,36 @@ module _ (s : Receiver) (v : EventSums) (bs out : List ℕ) (n : Option Refusal)
     g.0 ∙ ap (onward (begun s v n)) events_are ∙ same-listed _ _ refl refl (zero-add _) (zero-add _) (ap (λ (o : Option Refusal). first_of o (refusal_of (first_refused s (block_events s v bs (length out))))) en ∙ refusal_next (block_refusal s v (length bs) (length out)) _),
     g.1 ∙ ap (λ es. sets out 0 (more_lines (begun s v n) es)) events_are,
   )
+
+-- ---- the number of what refuses
+none_listed : Listed 0
+none_listed h = absurd (h refl)
+
+state_listed : (s : Receiver) → Listed (state_refusal s)
+unfolding state_refusal named
+state_listed s = listed_next _ _ (listed_mode s.mode s.role) (listed_need _ 4 0 (λ h. refl) none_listed)
+
+event_listed : (s : Receiver) (e : Event) → Listed (refusal s (taken e))
+unfolding refusal event_refusal named
+event_listed s (point p) = listed_next _ _ (state_listed s) (listed_need _ 8 _ (λ h. refl) (listed_need _ 16 0 (λ h. refl) none_listed))
+event_listed s (lost n) = listed_next _ _ (state_listed s) (listed_need _ 9 _ (λ h. refl) (listed_need _ 16 0 (λ h. refl) none_listed))
+
+first_listed : (es : List Event) (s : Receiver) → Listed (first_refused s es)
+first_listed [] s = none_listed
+first_listed (e ∷ es) s = listed_next _ _ (event_listed s e) (first_listed es (next s (taken e)))
+
+block_listed : (s : Receiver) (v : EventSums) (n room : ℕ) → Listed (block_refusal s v n room)
+unfolding block_refusal named
+block_listed s v n room =
+    listed_next _ _ (state_listed s) (listed_need _ 4 _ (λ h. refl) (listed_need _ 7 _ (λ h. refl) (listed_need _ 7 0 (λ h. refl) none_listed)))
+
+refusal_number : (n : ℕ) → Listed n → number_in (refusal_of n) ≡ n
+refusal_number zero h = refl
+refusal_number (suc n) h = h (λ (z : suc n ≡ 0). omega arith)
+
+pub stream_number : (s : Receiver) (v : EventSums) (bs : List ℕ) (room : ℕ) (h : ListedEvents) → h ≡ listed_events s v bs room
+    → number_in h.refusal ≡ or_next (block_refusal s v (length bs) room) (first_refused s (block_events s v bs room))
+unfolding listed_events
+stream_number s v bs room h e =
+    ap (λ (y : ListedEvents). number_in y.refusal) e
+    ∙ refusal_number _ (listed_next _ _ (block_listed s v (length bs) room) (first_listed (block_events s v bs room) s))

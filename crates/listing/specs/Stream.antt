@@ -3,7 +3,7 @@
 use Rattle.std.specs.Prelude.{Bool, ◌&&◌, Option, Some, None, List, [], ◌∷◌, map, ℕ, zero, suc, ◌+◌, ◌*◌, leb, length}
 use Rattle.std.proofs.lemmas.List.Edits.{sets}
 use Rattle.line.specs.declared.refusal.Refusal.{Refusal}
-use Rattle.line.specs.Refusal.{named, need, or_next, accepted}
+use Rattle.line.specs.Refusal.{number, named, need, or_next, accepted}
 use Rattle.receiver.specs.declared.Receiver.{Receiver}
 use Rattle.receiver.specs.Receiver.{state_refusal, refusal, next}
 use Rattle.receiver.specs.Calls.{after}
@@ -53,6 +53,11 @@ block_refusal s v n room =
 abbrev pub refusal_of : ℕ → Option Refusal
 refusal_of zero = None
 refusal_of (suc n) = Some (named (suc n))
+
+-- and its number, 0 where nothing refuses
+abbrev pub number_in : Option Refusal → ℕ
+number_in None = 0
+number_in (Some e) = number e
 
 -- the events that it is to take: none where the call is refused
 unfoldable pub block_events : Receiver → EventSums → List ℕ → ℕ → List Event

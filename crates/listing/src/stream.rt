@@ -2,11 +2,11 @@
 ghost use Rattle.std.specs.Prelude.{◌≡◌, None, [], ◌∷◌, ◌+◌, ◌≤◌, length};
 ghost use Rattle.std.proofs.lemmas.List.Edits.{sets};
 ghost use Rattle.line.specs.Mode.{width};
-ghost use Rattle.line.specs.Refusal.{numbered};
+ghost use Rattle.line.specs.Refusal.{numbered, or_next};
 ghost use Rattle.receiver.specs.Outcome.{answer_of, state_of};
 ghost use Rattle.summing.specs.Sums.{Small};
 ghost use Rattle.capture.specs.Capture.{event_of};
-ghost use Rattle.listing.specs.Stream.{sums_ok, block_refusal, listed_events, listed_bytes};
+ghost use Rattle.listing.specs.Stream.{first_refused, sums_ok, block_refusal, number_in, block_events, listed_events, listed_bytes};
 ghost use Rattle.listing.specs.Onward.{more_lines, onward, further, answer_text, answered};
 
 use super::{put_group, put_lost, put_reference};
@@ -136,7 +136,8 @@ fn list_event(out: &mut [u8], h: ListedEvents, e: Event) -> ListedEvents
 
 // Takes the events of a block of a capture, up to the first that the receiver refuses, and writes their lines at the start of the lent bytes.
 pub fn list_events(s: Receiver, v: EventSums, input: &[u8], out: &mut [u8]) -> ListedEvents
-    ensures { (result ≡ listed_events s v input.now (length out.old)) × (out.new ≡ listed_bytes s v input.now out.old) }
+    ensures listed { (result ≡ listed_events s v input.now (length out.old)) × (out.new ≡ listed_bytes s v input.now out.old) }
+    ensures number { number_in result.refusal ≡ or_next (block_refusal s v (length input.now) (length out.old)) (first_refused s (block_events s v input.now (length out.old))) }
 {
     let fault = block_fault(s, v, input.len(), out.len());
     let mut h = ListedEvents {

@@ -98,12 +98,15 @@ pub fn clear(s: &mut [u8])
     s.fill(0);
 }
 
-// The bytes of `r` into `s` from `at` on.
+// The bytes of `r` into `s` from `at` on. Byte by byte: for `copy_from_slice` the library for C would need `memcpy` and `memmove` of its
+// caller, which it does not otherwise.
 pub fn put_all(s: &mut [u8], at: usize, r: &[u8])
     ensures { s.new ≡ sets s.old at r.now }
 {
     if at < s.len() {
         let n = r.len().min(s.len() - at);
-        s[at..at + n].copy_from_slice(&r[..n]);
+        for k in 0..n {
+            s[at + k] = r[k];
+        }
     }
 }

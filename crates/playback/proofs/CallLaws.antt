@@ -11,10 +11,11 @@ use lib.Dec.{leb, eqb}
 use lib.IntN.{ℤ}
 use lib.ListN.{length, take, drop}
 use lib.Seq.{sets, sets-eq, take-append_seam}
-use Rattle.line.specs.Mode.{column, width}
-use Rattle.line.specs.Refusal.{named, answered, need, or_next, accepted, mode_refusal}
+use Rattle.line.specs.Mode.{column, is_mode, is_role, width}
+use Rattle.line.specs.Refusal.{named, numbered, answered, need, or_next, accepted, mode_refusal}
 use Rattle.line.specs.Table.{every}
 use Rattle.line.proofs.ByMode.{mode_short, mode_long, width_range}
+use Rattle.line.proofs.RefusalLaws.{Listed, listed_need, listed_next, numbered_answer}
 use Rattle.line.proofs.Tests.{and_split, lt_or_ge}
 use Rattle.scrambler.specs.Bits.{is_bit}
 use Rattle.training.specs.Training.{reversals, changes, intervals}
@@ -22,7 +23,7 @@ use Rattle.sender.specs.declared.Sender.{Sender}
 use Rattle.std.specs.Prelude.{Result, Ok, Err}
 use Rattle.line.specs.declared.refusal.Refusal.{Refusal}
 use Rattle.line.specs.declared.refusal.Refusal.TheVariants.{Lent}
-use Rattle.sender.specs.Sender.{has_room, state_refusal, data_refusal, send_refusal, after_bits, bit_numbers, send_answer, send_numbers}
+use Rattle.sender.specs.Sender.{fields_ok, has_room, state_refusal, data_refusal, send_refusal, after_bits, bit_numbers, send_answer, send_numbers}
 use Rattle.sender.proofs.OpenLaws.{open_ok}
 use Rattle.sender.proofs.RefusalLaws.{send_ok}
 use Rattle.sender.specs.Open.{length_ok, open_refusal, opened, training_numbers, open_answer, open_numbers}
@@ -53,6 +54,29 @@ module _ (n k c : ℕ) (t : Sender) (vs : List ℤ) (out : List ℕ) (e : n ≡ 
 
   call_goes_on : k ≡ 0 → n ≡ c
   call_goes_on z = e ∙ ap (λ (i : ℕ). or_next i c) z
+
+-- THE NUMBERS ARE OF THE LIST
+
+none_listed : Listed 0
+none_listed h = absurd (h refl)
+
+listed_mode : (m role : ℕ) → Listed (mode_refusal m role)
+unfolding mode_refusal named
+listed_mode m role = listed_need (is_mode m) 1 _ (λ h. refl) (listed_need (is_role m role) 2 0 (λ h. refl) none_listed)
+
+pub open_numbered : (m role n lent : ℕ) (r : Result Played Refusal) → r ≡ open_played m role n lent → numbered r ≡ open_fault m role n lent
+unfolding open_played open_fault open_refusal named
+open_numbered m role n lent r e =
+    ap numbered e ∙ numbered_answer (open_fault m role n lent) _
+    (listed_next _ _ (listed_mode m role) (listed_need (length_ok m n) 3 _ (λ h. refl) (listed_need (has_room (intervals m n) (lent / 2) 0) 7 0 (λ h. refl) none_listed)))
+
+pub send_numbered : (s : Sender) (ds : List ℕ) (lent : ℕ) (r : Result Played Refusal) → r ≡ send_played s ds lent → numbered r ≡ send_fault s ds lent
+unfolding send_played send_fault send_refusal state_refusal data_refusal named
+send_numbered s ds lent r e =
+    ap numbered e ∙ numbered_answer (send_fault s ds lent) _
+    (listed_next _ _ (listed_next _ _ (listed_next _ _ (listed_mode s.mode s.role) (listed_need (fields_ok s) 4 0 (λ h. refl) none_listed))
+    (listed_need (every is_bit (sent_bits s ds)) 5 _ (λ h. refl) (listed_need _ 6 _ (λ h. refl) (listed_need _ 7 0 (λ h. refl) none_listed))))
+    (listed_need (leb (length ds) 8192) 7 0 (λ h. refl) none_listed))
 
 -- ROOM
 

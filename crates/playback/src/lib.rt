@@ -3,7 +3,8 @@
 
 ghost use Rattle.std.specs.Prelude.{◌≡◌, ◌*◌, ◌/◌, ◌≤◌, length as size};
 ghost use Rattle.line.specs.Mode.{width};
-ghost use Rattle.playback.specs.Playback.{room_refusal, played, played_bytes, open_played, open_bytes, send_played, send_bytes};
+ghost use Rattle.line.specs.Refusal.{numbered};
+ghost use Rattle.playback.specs.Playback.{room_refusal, played, played_bytes, open_fault, open_played, open_bytes, send_fault, send_played, send_bytes};
 
 use line::Refusal;
 use sender::Sender;
@@ -31,6 +32,7 @@ fn hand_over(next: Sender, numbers: &[i16], out: &mut [u8]) -> Result<Played, Re
 // Opens a sender: its training stands at the front of `out`. The longest training has 8,464 points.
 pub fn open_bytes(mode: u8, role: u8, length: u32, out: &mut [u8]) -> Result<Played, Refusal>
     ensures value { result ≡ open_played mode role length (size out.old) }
+    ensures number { numbered result ≡ open_fault mode role length (size out.old) }
     ensures out_after { out.new ≡ open_bytes mode role length out.old }
 {
     let mut numbers = [0i16; 16928];
@@ -52,6 +54,7 @@ pub fn whole_bits(mode: u8, n: usize) -> usize
 // refuse and the lengths of the numbers differ. The count of groups is used by itself, so `whole_bits` is not called.
 pub fn send_bytes(s: Sender, input: &[u8], out: &mut [u8]) -> Result<Played, Refusal>
     ensures value { result ≡ send_played s input.now (size out.old) }
+    ensures number { numbered result ≡ send_fault s input.now (size out.old) }
     ensures out_after { out.new ≡ send_bytes s input.now out.old }
 {
     let w = line::width_of(s.mode) as usize;
