@@ -109,7 +109,7 @@ pub fn until_ended<F: FnMut() -> Result<bool, Stop>>(mut step: F) -> Result<bool
 }
 
 // Reads the rest of the input, which is not kept, so that whoever writes it is not cut off. That reading it failed is not told.
-fn skip_rest<R: Read>(input: &mut R) {
+pub fn skip_rest<R: Read>(input: &mut R) {
     let mut buf = [0u8; 65536];
     let _ = until_ended(|| Ok(input.read(&mut buf).map_err(Stop::Read)? == 0));
 }

@@ -26,7 +26,7 @@ number StoreFull = 17
 number NotFinite = 18
 number BlockSize = 19
 
--- the refusal of a number of the list; of any other, which no call gives, that of a block's size
+-- the refusal of a number of the list; no call asks for another, and of 0 it is `Mode`, of 10 and of those above 19 `BlockSize`
 unfoldable pub named : ℕ → Refusal
 named n =
     get_or (Mode ∷ Role ∷ TrainingLength ∷ State ∷ Bit ∷ BitCount ∷ Lent ∷ Coordinate ∷ NoIntervals ∷ BlockSize
